@@ -1,8 +1,8 @@
 -- Steps may be regrouped: `>>=` is associative, `pure` changes nothing, and `>>` is `>>=` without the result.
 -- By cases of what the first step gives; equal at every state is equal. Assumes nothing.
-use mathlib.Core.Path.{◌≡◌, refl, ap, sym, ◌∙◌, fun_ext}
-use mathlib.Core.List.{List, [], ◌∷◌, ◌++◌, append_assoc}
-use Rattle.conversion.specs.Ir.{Instr, State, Out, made, failed, M, after, bind, ◌>>=◌, ◌>>◌, pure}
+use mathlib.Core.Path.{◌≡◌, refl, ap, sym, fun_ext}
+use mathlib.Core.List.{List, [], ◌++◌, append_assoc}
+use Rattle.conversion.specs.Ir.{Instr, Out, made, failed, M, after, bind, ◌>>=◌, ◌>>◌, pure}
 
 after-after : {A : Type 0} (c d : List Instr) (o : Out A) → after c (after d o) ≡ after (c ++ d) o
 unfolding after

@@ -1,10 +1,10 @@
 -- A left shift folds exactly where its count is 0 to 127 and the true product by the power of two lies within 128 bits, and then to that product.
 -- The bits that are kept are those of the value's rest by 2 ^ (128 - n), so what is taken back is that rest: it is the old value only where nothing was lost.
 use mathlib.Core.Path.{◌≡◌, refl, sym, ap, ap₂, ◌∙◌, subst}
-use mathlib.Core.Bool.{Bool, true, false, cond}
+use mathlib.Core.Bool.{Bool, cond}
 use mathlib.Core.Logic.{⊎_elim}
 use mathlib.Core.Option.{Option, none, some}
-use Prim.Native.Nat.{ℕ, zero, suc, ◌+◌, ◌-◌, ◌*◌, ◌/◌, ◌%◌, ◌^◌, ◌≤◌, ◌<◌}
+use Prim.Native.Nat.{ℕ, suc, ◌+◌, ◌-◌, ◌*◌, ◌/◌, ◌%◌, ◌^◌, ◌≤◌, ◌<◌}
 use native.Mathlib.Nat.{lt_of_le_of_lt, not-le_of_lt, mod-lt, mul_comm, mul-one, suc-mul, mul-add, add-mul, mod-eq_of_lt, mul-mod_left, mul-div_cancel, add-zero, div-mul-le_self, lt_of_mul-lt-mul_right, eq-sub_of_add-eq, sub-add_cancel}
 use native.Mathlib.Omega.{arith}
 use lib.Dec.{ltb, lit<}

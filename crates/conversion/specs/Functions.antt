@@ -6,7 +6,7 @@ use Rattle.records.specs.Words.{none}
 use Rattle.syntax.specs.Syntax.{Text, Ty, Statement, SDeclare, SInit, SReturn, SCall, SIf, SIfElse, SWhile, SFor, SBreak, SContinue, Block, done, next, Param, Function, Program}
 use Rattle.conversion.specs.ConvertError as C
 use Rattle.conversion.specs.ConvertError.{Result, ok, err, SameSignature, SameSymbol, AlreadyDeclared, MissingReturn, NoMain, MainNotInteger, LatinCharInNonLibCFunction, ExternNotLatin}
-use Rattle.conversion.specs.Ir.{StringEntry, FloatEntry, Out, made, failed, M, ◌>>=◌, ◌>>◌, pure, fail, new_var, same_text, IrFunction}
+use Rattle.conversion.specs.Ir.{StringEntry, FloatEntry, Out, made, failed, M, ◌>>=◌, pure, fail, new_var, same_text, IrFunction}
 use Rattle.conversion.specs.Types.{is_int, is_some}
 use Rattle.conversion.specs.Scope.{Scope, find_variable, with_variable}
 use Rattle.conversion.specs.Expressions.{Functions, get_function, main_name}

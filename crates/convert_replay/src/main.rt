@@ -6,11 +6,13 @@
 // then the bytes of the tree, of the text and of the tables. Where nothing is converted the tables are empty.
 #![tactic(auto)]
 
-ghost use Rattle.std.specs.Prelude.{◌≡◌, ◌+◌, ◌*◌, ◌≤◌, ◌<◌, length};
+ghost use Rattle.std.specs.Prelude.{◌≡◌, ◌+◌, ◌*◌, ◌≤◌, ◌<◌, length, IfOk};
 
-use libc::STDOUT_FILENO;
 use records::words::load;
 use rudderplum::rudderplum_convert;
+use std::fs::File;
+use std::io;
+use std::io::Read;
 
 // Bytes of a case's head, and where its words stand.
 const HEAD: usize = 104;
@@ -222,11 +224,26 @@ fn body_len(head: &[u8]) -> usize
     load(head, 0) as usize + load(head, 4) as usize + table_from(head, 6)
 }
 
+// Reads until the buffer is full or the file ends; says how many bytes there were.
+fn read_full(file: &mut File, buffer: &mut [u8]) -> io::Result<usize>
+    ensures { IfOk result (λ n. n ≤ length buffer.new) }
+{
+    let mut n = 0;
+    for _ in 0..u64::MAX {
+        let m = file.read(&mut buffer[n..])?;
+        if m == 0 {
+            break;
+        }
+        n += m;
+    }
+    Ok(n)
+}
+
 // Reads the next case and replays it.
-fn next_case(file: i32, head: &mut [u8], body: &mut [u8]) -> Came
+fn next_case(file: &mut File, head: &mut [u8], body: &mut [u8]) -> io::Result<Came>
     requires { length head.old ≡ 104 }
 {
-    let n = io::read_full(file, head);
+    let n = read_full(file, head)?;
     let len = body_len(head);
     let unread = Came {
         read: false,
@@ -234,31 +251,31 @@ fn next_case(file: i32, head: &mut [u8], body: &mut [u8]) -> Came
         same: false,
     };
     if n < HEAD {
-        return unread;
+        return Ok(unread);
     }
     if body.len() < len {
-        return unread;
+        return Ok(unread);
     }
-    let m = io::read_full(file, &mut body[..len]);
+    let m = read_full(file, &mut body[..len])?;
     if m < len {
-        return unread;
+        return Ok(unread);
     }
-    Came {
+    Ok(Came {
         read: true,
         ended: false,
         same: replay_body(head, &body[..len]),
-    }
+    })
 }
 
 // Replays each case of the list.
-fn replay(file: i32) -> Tally {
+fn replay(file: &mut File) -> io::Result<Tally> {
     let mut head = [0u8; HEAD];
     let mut body = [0u8; BODY_ROOM];
     let mut cases: usize = 0;
     let mut differ: usize = 0;
     let mut whole = false;
     while cases < MOST_CASES {
-        let s = next_case(file, &mut head, &mut body);
+        let s = next_case(file, &mut head, &mut body)?;
         if !s.read {
             whole = s.ended;
             break;
@@ -268,29 +285,23 @@ fn replay(file: i32) -> Tally {
             differ += 1;
         }
     }
-    Tally {
+    Ok(Tally {
         cases,
         differ,
         whole,
-    }
+    })
 }
 
-fn report(t: Tally) {
+fn report(rt: &impl Print, t: Tally) -> io::Result<()> {
     if !t.whole {
-        io::write_all(STDOUT_FILENO, b"the list breaks off after ");
+        print!(rt; "the list breaks off after ")?;
     }
-    io::print_decimal(STDOUT_FILENO, t.cases as u64);
-    io::write_all(STDOUT_FILENO, b" cases, ");
-    io::print_decimal(STDOUT_FILENO, t.differ as u64);
-    io::write_all(STDOUT_FILENO, b" differ\n");
+    let cases = t.cases;
+    let differ = t.differ;
+    println!(rt; "{cases} cases, {differ} differ")
 }
 
-fn main() {
-    let file = os::open_read(b"cases.bin");
-    if file < 0 {
-        os::fail(b"cases.bin");
-        return;
-    }
-    report(replay(file));
-    libc::close(file);
+fn main(rt: HostRuntime) -> io::Result<()> {
+    let mut file = File::open(&rt, "cases.bin")?;
+    report(&rt, replay(&mut file)?)
 }

@@ -29,7 +29,6 @@ use Rattle.keys.proofs.KeyLaws.{from, from_start, from_one, from_end}
 use Rattle.keys.proofs.KeySearch.{records-most}
 use Rattle.texts.specs.Texts.{Kept}
 use Rattle.expressions.specs.declared.answers.Outcome.{Outcome}
-use Rattle.expressions.specs.declared.answers.Outcome.TheVariants as Outcome
 use Rattle.expressions.specs.Answers.{refusal, outcome_of}
 use Rattle.expressions.specs.Slots.{visits_at, Forgets}
 use Rattle.statements.specs.Lent.{Finished}
@@ -38,7 +37,6 @@ use Rattle.statements.specs.Turns.{Turns}
 use Rattle.statements.proofs.StayLaws.{keyed_stays}
 use Rattle.statements.specs.Meets.{texts_of}
 use Rattle.functions.specs.declared.functions.AllFunctions.{AllFunctions}
-use Rattle.functions.specs.declared.functions.AllFunctions.TheVariants as AllFunctions
 use Rattle.functions.specs.Functions.{AllMeet, done, refused}
 use Rattle.functions.specs.Bodies.{begun, FunctionsAfforded, FunctionSpent, FunctionStands, FunctionDone, ConvertsFunction, FunctionVisited}
 use Rattle.converter.specs.Convert.{empty_pool, ProgramStands, ConvertsTo, all_functions, empty_counters}

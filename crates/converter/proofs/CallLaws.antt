@@ -30,7 +30,6 @@ use Rattle.judge.specs.Judge.{Buffers, buffers, lengths_of, verdict, judged, cle
 use Rattle.judge.specs.Keeps.{JudgeKeeps, placed, unplaced}
 use Rattle.judge.specs.declared.Lengths.{Lengths}
 use Rattle.judge.specs.declared.Judged.{Judged}
-use Rattle.judge.specs.declared.Judged.TheVariants as Judged
 use Rattle.judge.proofs.RowLaws.{cleared-length, core_kept, core_cleared, answer_in_lem, outputs-cleared, outputs-kept}
 use Rattle.expressions.specs.Slots.{visits_at}
 use Rattle.statements.specs.Lent.{Finished}
@@ -43,7 +42,6 @@ use Rattle.demands.proofs.WaysOut.{refused_run, good_in, some_in, enough_in, fai
 use Rattle.demands.proofs.Demands.{every_call}
 use Rattle.converter.specs.declared.Counts.{Counts}
 use Rattle.converter.specs.declared.Answer.{Answer}
-use Rattle.converter.specs.declared.Answer.TheVariants as Answer
 use Rattle.converter.specs.Convert.{pool_of, ConvertsTo, counts_in, outputs, CutAfforded, SameTableLengths, FinishesIn, SevenLong, counts_from, answer_from, Promised}
 
 -- ---- one component after the other

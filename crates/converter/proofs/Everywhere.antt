@@ -11,7 +11,6 @@ use Rattle.demands.specs.Demands.{AllRunAlike, Demands}
 use Rattle.demands.proofs.Demands.{every_call}
 use Rattle.converter.specs.declared.Counts.{Counts}
 use Rattle.converter.specs.declared.Answer.{Answer}
-use Rattle.converter.specs.declared.Answer.TheVariants as Answer
 use Rattle.converter.specs.Convert.{counts_from, answer_from, Promised}
 
 -- THE PROMISE over values of any type: `AllRunAlike` has no premise but that the tree was converted

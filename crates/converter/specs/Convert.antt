@@ -28,7 +28,6 @@ use Rattle.demands.specs.Call.{Calls}
 use Rattle.demands.specs.Demands.{Demands}
 use Rattle.converter.specs.declared.Counts.{Counts}
 use Rattle.converter.specs.declared.Answer.{Answer}
-use Rattle.converter.specs.declared.Answer.TheVariants as Answer
 
 -- ---- while converting: all tables stand in the arena
 

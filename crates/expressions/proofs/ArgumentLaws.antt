@@ -18,15 +18,13 @@ use Rattle.records.specs.Shapes.{plain_type, type_shape, shape_of, row_of, row_a
 use Rattle.records.specs.Rules.{is_expr, word_ok}
 use Rattle.records.specs.Good.{Good}
 use Rattle.records.proofs.GoodLaws.{inside, detail_below, words}
-use Rattle.syntax.specs.Syntax.{ToType, place}
+use Rattle.syntax.specs.Syntax.{place}
 use Rattle.syntax.specs.Decode.{node, expr_of, kinds, nothing_at, int_at, float_at, str_at, bool_at, name_at, null_at, size_of_at, unary_at, binary_at, call_at, key_at, text_of}
 use Rattle.syntax.proofs.Unfold.{node-is}
 use Rattle.conversion.specs.Expressions.{TypedArg, target_type, source_type}
 use Rattle.records.specs.declared.words.Found.{Found}
-use Rattle.records.specs.declared.words.Found.TheVariants as Found
 use Rattle.keys.specs.declared.parts.Part.{Part}
 use Rattle.expressions.specs.declared.arguments.Argument.{Argument}
-use Rattle.expressions.specs.declared.arguments.Argument.TheVariants as Argument
 use Rattle.syntax.specs.Places.{IsExpr, TypeAt, ArgsAt, ParamsAt, expr_at, args_at, params_at}
 use Rattle.keys.specs.Parts.{PartIs}
 use Rattle.expressions.specs.Slots.{FirstType, slot_at, slotted, ArgsTyped}

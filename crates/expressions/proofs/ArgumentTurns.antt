@@ -24,11 +24,8 @@ use Rattle.conversion.specs.Expressions.{TypedArg, Functions, get_type, get_argu
 use Rattle.scope.specs.declared.Scope.{Scope}
 use Rattle.scope.specs.Open.{scope_at}
 use Rattle.expressions.specs.declared.answers.Outcome.{Outcome}
-use Rattle.expressions.specs.declared.answers.Outcome.TheVariants as Outcome
 use Rattle.expressions.specs.declared.answers.ExprType.{ExprType}
-use Rattle.expressions.specs.declared.answers.ExprType.TheVariants as ExprType
 use Rattle.expressions.specs.declared.arguments.Argument.{Argument}
-use Rattle.expressions.specs.declared.arguments.Argument.TheVariants as Argument
 use Rattle.syntax.specs.Places.{IsExpr, IsKind, ArgsAt, expr_at, args_at}
 use Rattle.keys.specs.Keys.{all_keys}
 use Rattle.expressions.specs.Slots.{slot_at, slotted, ArgsTyped, Frame, type_in, RightAt, Remembers, Typed, Typing}

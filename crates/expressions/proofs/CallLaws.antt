@@ -3,15 +3,13 @@
 use mathlib.Core.Path.{◌≡◌, refl, sym, ap, ap₂, ◌∙◌}
 use mathlib.Core.Bool.{Bool, true, false, not, ◌&&◌}
 use mathlib.Core.List.{List, [], ◌∷◌, ◌++◌, append-nil}
-use mathlib.Core.Logic.{inl, inr, ⊎_elim}
+use mathlib.Core.Logic.{⊎_elim}
 use mathlib.Core.Option.{none as nothing}
 use Prim.Native.Nat.{ℕ, zero, suc, ◌+◌, ◌*◌, ◌^◌, ◌<◌, ◌≤◌}
 use native.Mathlib.Nat.{eq-or-lt_of_le}
 use native.Mathlib.Omega.{arith}
 use lib.Dec.{eqb}
 use lib.ListN.{length, get_or}
-use types.Run.{OneOf}
-use denote.Enum.Declared.{tag_of}
 use Rattle.laws.specs.Chain.{link_to}
 use Rattle.laws.specs.Fix.{pick}
 use Rattle.laws.proofs.ChainLaws.{link_within, link_here, link_above, link_falls}
@@ -28,13 +26,9 @@ use Rattle.conversion.specs.Ir.{same_text}
 use Rattle.conversion.specs.Types.{can_cast}
 use Rattle.conversion.specs.Expressions.{TypedArg, Callee, Functions, cast_verb, is_mangled, takes_both, target_type, source_type, cast_checked, cast_to, cast_type, by_literals, find_functions_by_literals, find_exact_function, chosen, exact_or, resolve_function, resolve_typed}
 use Rattle.records.specs.declared.words.Found.{Found}
-use Rattle.records.specs.declared.words.Found.TheVariants as Found
 use Rattle.expressions.specs.declared.answers.Candidates.{Candidates}
-use Rattle.expressions.specs.declared.answers.Candidates.TheVariants as Candidates
 use Rattle.expressions.specs.declared.answers.Cast.{Cast}
-use Rattle.expressions.specs.declared.answers.Cast.TheVariants as Cast
 use Rattle.expressions.specs.declared.answers.Resolved.{Resolved}
-use Rattle.expressions.specs.declared.answers.Resolved.TheVariants as Resolved
 use Rattle.expressions.specs.declared.arguments.Call.{Call}
 use Rattle.syntax.specs.Places.{IsKind, TypeAt, FunctionAt, ArgsAt, function_of, args_at}
 use Rattle.keys.specs.Keys.{records_below, functions_of, all_keys, key_slot_at, name_head_at, is_function, name_bucket, Keyed, function_found, FunctionFound}
@@ -45,7 +39,6 @@ use Rattle.syntax.proofs.Records.{name_record, function-name}
 use Rattle.texts.specs.Texts.{has_text, original, original_at, Numbered}
 use Rattle.texts.proofs.TextLaws.{same_numbers}
 use Rattle.expressions.specs.Answers.{refusal, cast_result, found_number, callee_of, IsCast, CastIs, IsCallee, CalleeIs, CandidatesAre, AreAll, OneFunction, nobody, one, several}
-use Rattle.expressions.specs.contracts.answers.Candidates.{the_type}
 use Rattle.keys.proofs.ChainLaws.{name-has, function-here, name_bucket-is, name_bucket-here}
 use Rattle.keys.proofs.FunctionLaws.{found-function, all_functions_lem, functions-append}
 use Rattle.expressions.proofs.ExactLaws.{verb-below}

@@ -11,13 +11,10 @@ use Rattle.conversion.specs.ConvertError.{ok, ◌>>=◌}
 use Rattle.conversion.specs.Scope as Def
 use Rattle.conversion.specs.Expressions.{common_of, common_type}
 use Rattle.records.specs.declared.words.Found.{Found}
-use Rattle.records.specs.declared.words.Found.TheVariants as Found
 use Rattle.scope.specs.declared.Scope.{Scope}
 use Rattle.scope.specs.Open.{scope_at}
 use Rattle.expressions.specs.declared.answers.ExprType.{ExprType}
-use Rattle.expressions.specs.declared.answers.ExprType.TheVariants as ExprType
 use Rattle.expressions.specs.declared.answers.Common.{Common}
-use Rattle.expressions.specs.declared.answers.Common.TheVariants as Common
 use Rattle.syntax.specs.Places.{expr_at}
 use Rattle.keys.specs.Keys.{all_keys}
 use Rattle.expressions.specs.Slots.{type_in, Typed, Typing}

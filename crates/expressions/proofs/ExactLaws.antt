@@ -2,7 +2,7 @@
 -- By the laws of a key looked for and of what a walk along its chain finds. Assumes nothing.
 use mathlib.Core.Path.{◌≡◌, refl, sym, ap, ◌∙◌}
 use mathlib.Core.Bool.{Bool, true, false}
-use mathlib.Core.List.{List, []}
+use mathlib.Core.List.{List}
 use mathlib.Core.Option.{Option, none, some}
 use Prim.Native.Nat.{ℕ, ◌+◌, ◌-◌, ◌≤◌, ◌<◌}
 use native.Mathlib.Omega.{arith}
@@ -16,7 +16,6 @@ use Rattle.syntax.specs.Decode.{program}
 use Rattle.conversion.specs.Ir.{same_text}
 use Rattle.conversion.specs.Expressions.{is_mangled, takes_both, get_function, filter_option, suffixes, joined, mangled_function, variadic_function, find_exact_function}
 use Rattle.records.specs.declared.words.Found.{Found}
-use Rattle.records.specs.declared.words.Found.TheVariants as Found
 use Rattle.records.proofs.RollLaws.{roll_small}
 use Rattle.records.proofs.TextLaws.{other-lengths}
 use Rattle.keys.specs.declared.parts.Part.{Part}

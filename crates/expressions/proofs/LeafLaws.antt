@@ -13,10 +13,10 @@ use borrow.Author.Tests.{leb-true, eq-eqb, ne_eqb}
 use Rattle.laws.specs.Fix.{pick}
 use Rattle.laws.proofs.Tests.{and_left}
 use Rattle.records.specs.declared.convert_error.ConvertError.{ConvertError}
-use Rattle.records.specs.Words.{kind_of, detail_of, word_of, word_at, text_at, records, none, A, B, D}
+use Rattle.records.specs.Words.{kind_of, detail_of, word_of, word_at, none, A, D}
 use Rattle.records.specs.Good.{Good}
 use Rattle.records.proofs.GoodLaws.{inside, int_detail, float_detail}
-use Rattle.syntax.specs.Syntax.{Function, int_type, float_type}
+use Rattle.syntax.specs.Syntax.{int_type, float_type}
 use Rattle.syntax.specs.Decode.{bit, reference, text_of}
 use Rattle.syntax.proofs.Records.{expr_int, expr_float, expr-str, expr-bool, expr-name, expr_null, expr_size_of, function-return, return-is}
 use Rattle.conversion.specs.ConvertError.{ok, err, ◌>>=◌, UnknownVariable, NoValue}
@@ -27,12 +27,9 @@ use Rattle.conversion.specs.Expressions.{get_type, name_type, value_type, return
 use Rattle.ir.specs.declared.structs.VarId.{VarId}
 use Rattle.scope.specs.declared.Scope.{Scope}
 use Rattle.scope.specs.declared.Known.{Known}
-use Rattle.scope.specs.declared.Known.TheVariants as Known
 use Rattle.scope.specs.Open.{open_variable, variables_at, variables_of, scope_at, IsFound, FindMeets}
 use Rattle.expressions.specs.declared.answers.ExprType.{ExprType}
-use Rattle.expressions.specs.declared.answers.ExprType.TheVariants as ExprType
 use Rattle.expressions.specs.declared.answers.Resolved.{Resolved}
-use Rattle.expressions.specs.declared.answers.Resolved.TheVariants as Resolved
 use Rattle.syntax.specs.Places.{IsExpr, IsKind, TypeAt, FunctionAt, function_of}
 use Rattle.expressions.specs.Slots.{type_in, Scoped}
 use Rattle.expressions.specs.Answers.{refusal, type_result, callee_of, value_result, IsTyped, IsCallee, TypeIs}

@@ -13,18 +13,16 @@ use Rattle.laws.specs.Fix.{pick}
 use Rattle.records.specs.Words.{kind_of, detail_of, word_of, records, A, B}
 use Rattle.records.specs.Good.{Good}
 use Rattle.records.proofs.GoodLaws.{binary_detail}
-use Rattle.syntax.specs.Syntax.{Text, TInt, TFloat, TBool, TChar, TByte, TAddress, TArray, TCustom, TNull, BinaryOp, unary_ops, binary_ops, Neg, Or, place}
+use Rattle.syntax.specs.Syntax.{Text, TInt, TFloat, TBool, TChar, TByte, TAddress, TArray, TCustom, TNull, BinaryOp, unary_ops, binary_ops, Neg, Or}
 use Rattle.syntax.specs.Decode.{bit, text_of, wide_of, program, type_at}
 use Rattle.conversion.specs.ConvertError.{ConvertErrorKind, Result, err, WrongOperands, LiteralOutOfRange}
 use Rattle.conversion.specs.Types.{is_int, on_int, is_number, fits, range_error}
 use Rattle.conversion.specs.Expressions.{OperandClass, Bools, Any, Numbers, Integers, operand_class, gives_bool, filter_option, common_of, accepts_unary, accepts_class, unary_type, binary_error, accepted, binary_type}
 use Rattle.records.specs.declared.words.Found.{Found}
-use Rattle.records.specs.declared.words.Found.TheVariants as Found
 use Rattle.types.specs.Fits.{IsType, fits_at, range_error_at}
 use Rattle.types.specs.Operators.{class_number, result_number}
 use Rattle.types.proofs.FromGood.{is-type}
 use Rattle.expressions.specs.declared.answers.ExprType.{ExprType}
-use Rattle.expressions.specs.declared.answers.ExprType.TheVariants as ExprType
 use Rattle.expressions.specs.declared.operands.Sides.{Sides}
 use Rattle.syntax.specs.Places.{IsExpr, IsKind, TypeAt, expr_at}
 use Rattle.keys.specs.Keys.{all_keys}

@@ -1,7 +1,7 @@
 -- Names by the lowest record with the text: its words A and B say the name's text, and tell it from the open names, and its slot tells where it stands; so what is
 -- found by them, or declaring them leaves, is that of the name. By the laws of the texts' numbers. Assumes nothing.
 use mathlib.Core.Path.{◌≡◌, refl, sym, ap, ◌∙◌, subst}
-use mathlib.Core.Bool.{Bool, true, ◌&&◌}
+use mathlib.Core.Bool.{Bool, true}
 use mathlib.Core.List.{List}
 use Prim.Native.Nat.{ℕ, ◌+◌, ◌*◌, ◌≤◌, ◌<◌}
 use native.Mathlib.Omega.{arith}
@@ -9,13 +9,13 @@ use lib.Dec.{eqb}
 use lib.ListN.{length}
 use borrow.Author.Tests.{eqb-true}
 use Rattle.laws.proofs.Tests.{and_left, and_right}
-use Rattle.records.specs.Words.{kind_of, word_at, word_of, text_at, same_text, records, A, B}
+use Rattle.records.specs.Words.{kind_of, word_at, word_of, text_at, records, A, B}
 use Rattle.records.specs.Kinds.{kind_name}
 use Rattle.records.specs.Good.{Good}
 use Rattle.records.proofs.GoodLaws.{inside}
 use Rattle.syntax.specs.Decode.{text_of}
 use Rattle.syntax.specs.Places.{IsKind}
-use Rattle.texts.specs.Texts.{has_own, has_text, own_text, original, original_at, Numbered}
+use Rattle.texts.specs.Texts.{has_own, has_text, own_text, original_at, Numbered}
 use Rattle.texts.proofs.TextLaws.{original-below, original-text, same-original, words_tell}
 use Rattle.ir.specs.declared.structs.VarId.{VarId}
 use Rattle.scope.specs.declared.Scope.{Scope}

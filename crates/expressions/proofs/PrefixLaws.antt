@@ -13,7 +13,6 @@ use Rattle.records.specs.Digest.{roll_step, roll_from, roll_of}
 use Rattle.records.specs.Words as Words
 use Rattle.records.specs.Words.{text_at, word_of, most_records, B}
 use Rattle.records.specs.declared.words.Found.{Found}
-use Rattle.records.specs.declared.words.Found.TheVariants as Found
 use Rattle.records.specs.declared.shape.Role.TheVariants.{Arguments}
 use Rattle.records.proofs.RollLaws.{roll_append, text_split}
 use Rattle.records.proofs.TextLaws.{other-lengths}

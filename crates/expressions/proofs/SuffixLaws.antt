@@ -16,7 +16,6 @@ use Rattle.syntax.specs.Syntax.{Text, Expr, Args, Value, ToType, place}
 use Rattle.syntax.specs.Decode.{program, text_of, key_at}
 use Rattle.conversion.specs.Ir.{same_text}
 use Rattle.conversion.specs.Expressions.{dollar, suffixes, joined}
-use Rattle.records.specs.declared.words.Found.TheVariants as Found
 use Rattle.records.proofs.RollLaws.{text_split}
 use Rattle.records.proofs.TextLaws.{text-length}
 use Rattle.keys.specs.declared.parts.Part.{Part}

@@ -18,7 +18,6 @@ use Rattle.conversion.specs.Expressions.{TypedArg, Functions, takes_count, takes
 use Rattle.types.specs.Fits.{IsType, fits_at}
 use Rattle.types.proofs.FromGood.{is-type}
 use Rattle.expressions.specs.declared.arguments.Argument.{Argument}
-use Rattle.expressions.specs.declared.arguments.Argument.TheVariants as Argument
 use Rattle.syntax.specs.Places.{TypeAt, ArgsAt, ParamsAt, expr_at, args_at, params_at}
 use Rattle.keys.specs.Keys.{all_keys}
 use Rattle.expressions.specs.Slots.{slot_at, ArgsTyped}

@@ -27,7 +27,6 @@ use Rattle.scope.specs.declared.Scope.{Scope}
 use Rattle.scope.specs.Open.{scope_at}
 use Rattle.expressions.specs.Slots.{slot_at, turn_at, visits_at, beside_at, in_turn, made, after_visit, Frame, type_in, Beside, RightAt, Remembers, Typed, Typing}
 use Rattle.expressions.specs.declared.answers.ExprType.{ExprType}
-use Rattle.expressions.specs.declared.answers.ExprType.TheVariants as ExprType
 use Rattle.expressions.specs.Answers.{type_result, TypeMeets}
 use Rattle.expressions.proofs.SlotLaws.{put_long, put_byte, put_other, put_here, scope-frame, ready-frame}
 use Rattle.expressions.proofs.PartLaws.{expr-low, expr-behind, own-exprs, own-apart}

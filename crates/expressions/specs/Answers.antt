@@ -12,25 +12,17 @@ use Rattle.conversion.specs.ConvertError.{Result, ok, err, ◌>>=◌}
 use Rattle.conversion.specs.Expressions as Defined
 use Rattle.conversion.specs.Expressions.{Callee, CallFunction, CallCast, return_type, value_type, get_argument_types, common_type, OperandClass, accepts_class, unary_type, binary_error, binary_type}
 use Rattle.records.specs.declared.words.Found.{Found}
-use Rattle.records.specs.declared.words.Found.TheVariants as Found
 use Rattle.scope.specs.declared.Scope.{Scope}
 use Rattle.scope.specs.Open.{scope_at}
 use Rattle.types.specs.Operators.{class_number}
 use Rattle.expressions.specs.declared.answers.Outcome.{Outcome}
-use Rattle.expressions.specs.declared.answers.Outcome.TheVariants as Outcome
 use Rattle.expressions.specs.declared.answers.ExprType.{ExprType}
-use Rattle.expressions.specs.declared.answers.ExprType.TheVariants as ExprType
 use Rattle.expressions.specs.declared.answers.Resolved.{Resolved}
-use Rattle.expressions.specs.declared.answers.Resolved.TheVariants as Resolved
 use Rattle.expressions.specs.declared.answers.Cast.{Cast}
-use Rattle.expressions.specs.declared.answers.Cast.TheVariants as Cast
 use Rattle.expressions.specs.declared.answers.Common.{Common}
-use Rattle.expressions.specs.declared.answers.Common.TheVariants as Common
 use Rattle.expressions.specs.declared.answers.Candidates.{Candidates}
-use Rattle.expressions.specs.declared.answers.Candidates.TheVariants as Candidates
 use Rattle.expressions.specs.declared.operands.Sides.{Sides}
 use Rattle.expressions.specs.declared.arguments.Argument.{Argument}
-use Rattle.expressions.specs.declared.arguments.Argument.TheVariants as Argument
 use Rattle.syntax.specs.Places.{IsExpr, TypeAt, FunctionAt, function_of, expr_at, args_at}
 use Rattle.keys.specs.Keys.{all_keys}
 use Rattle.expressions.specs.Slots.{visits_at, after_visit, slotted, ArgsTyped, Frame, Typed, type_in, callee_in, Beside}

@@ -11,7 +11,6 @@ use Rattle.conversion.specs.ConvertError.{Result}
 use Rattle.conversion.specs.Ir.{same_text}
 use Rattle.conversion.specs.Expressions.{TypedArg, Callee, suffixes, joined, takes_arg, takes_args, takes_both, variadic_mark, filter_option, get_function, mangled_function, variadic_function, find_exact_function, find_functions_by_literals, cast_type, resolve_function, resolve_typed}
 use Rattle.records.specs.declared.words.Found.{Found}
-use Rattle.records.specs.declared.words.Found.TheVariants as Found
 use Rattle.expressions.specs.declared.arguments.Call.{Call}
 use Rattle.syntax.specs.Places.{ArgsAt, args_at, params_at}
 use Rattle.texts.specs.Texts.{has_own, own_text, original}

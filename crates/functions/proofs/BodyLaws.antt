@@ -22,7 +22,7 @@ use Rattle.syntax.specs.Places.{FunctionAt, ParamsAt, BodyAt, function_of, param
 use Rattle.syntax.proofs.Lists.{left, cell-is, next-list, next_falls, params_end, parameter_item}
 use Rattle.syntax.proofs.Records.{function_rec, function-return, function-body, body_is}
 use Rattle.conversion.specs.ConvertError.{Result, ok, err, AlreadyDeclared, MissingReturn}
-use Rattle.conversion.specs.Ir.{State, Out, made, failed, M, after, bind, ◌>>=◌, ◌>>◌, pure, fail, new_var, IrFunction}
+use Rattle.conversion.specs.Ir.{State, Out, made, failed, M, after, bind, ◌>>=◌, pure, fail, new_var, IrFunction}
 use Rattle.conversion.specs.Types.{some_and, is_some}
 use Rattle.conversion.specs.Scope as Def
 use Rattle.conversion.specs.Scope.{find_variable, with_variable}
@@ -52,7 +52,6 @@ use Rattle.statements.proofs.StayLaws.{stays_refl, stays_then, loop-outside}
 use Rattle.statements.proofs.StatedLaws.{finished-next, finished-stop}
 use Rattle.statements.proofs.TurnLaws.{turns_refl, turns_stay, turns_later, visits_stay, visited_stay, visited_later}
 use Rattle.functions.specs.declared.parameters.Parameters.{Parameters}
-use Rattle.functions.specs.declared.parameters.Parameters.TheVariants as Parameters
 use Rattle.functions.specs.Parameters.{parameter_of, with_params, empty_in, ParametersMeet}
 use Rattle.functions.proofs.Members.{function_at-most}
 use Rattle.functions.specs.Bodies.{new_vars, begun, FunctionsAfforded, FunctionSpent, FunctionStands, FunctionDone, ConvertsFunction, body_steps, BodyStands, BodyDone, ConvertsBody, BodyAs, FunctionVisited}

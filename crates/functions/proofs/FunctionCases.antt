@@ -25,10 +25,8 @@ use Rattle.conversion.specs.Ir.{same_text}
 use Rattle.conversion.specs.Expressions.{is_mangled, get_function, main_name}
 use Rattle.conversion.specs.Functions.{is_ascii, add_function, find_main, returns_int, main_checked, check_main}
 use Rattle.records.specs.declared.words.Found.{Found}
-use Rattle.records.specs.declared.words.Found.TheVariants as Found
 use Rattle.keys.specs.declared.parts.Part.{Part}
 use Rattle.expressions.specs.declared.answers.Outcome.{Outcome}
-use Rattle.expressions.specs.declared.answers.Outcome.TheVariants as Outcome
 use Rattle.functions.specs.declared.functions.AllFunctions.TheVariants as AllFunctions
 use Rattle.syntax.specs.Places.{TypeAt, FunctionAt, function_of}
 use Rattle.keys.specs.Parts.{PartIs}

@@ -26,7 +26,6 @@ use Rattle.conversion.specs.Written.{bool_number}
 use Rattle.ir.specs.declared.structs.VarId.{VarId}
 use Rattle.scope.specs.declared.Scope.{Scope}
 use Rattle.scope.specs.declared.Declared.{Declared}
-use Rattle.scope.specs.declared.Declared.TheVariants as Declared
 use Rattle.scope.specs.Open.{variables_at, loop_number, scope_at, variable_named, NameAfforded, Added, Taken, DeclareMeets}
 use Rattle.scope.proofs.ScopeLaws.{scope-more}
 use Rattle.functions.specs.declared.parameters.Parameters.{Parameters as Answered}

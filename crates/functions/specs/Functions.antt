@@ -12,7 +12,6 @@ use Rattle.keys.specs.Keys.{records_below, function_places, keys_below, Listed, 
 use Rattle.expressions.specs.declared.answers.Outcome.{Outcome}
 use Rattle.expressions.specs.Answers.{refusal, done_with}
 use Rattle.functions.specs.declared.functions.AllFunctions.{AllFunctions}
-use Rattle.functions.specs.declared.functions.AllFunctions.TheVariants as AllFunctions
 
 -- one word after the other
 unfoldable pub words : List ℕ → List ℕ

@@ -1,5 +1,5 @@
 -- The parameters of a function in the scope of its body: the first lines of `convert_func`. Assumes nothing: these are definitions.
-use Rattle.std.specs.Prelude.{◌≡◌, ℕ, suc, ◌+◌, ◌*◌, ◌≤◌, ◌<◌, true, false, List, [], ◌∷◌, ◌++◌, length}
+use Rattle.std.specs.Prelude.{◌≡◌, ℕ, suc, ◌*◌, ◌≤◌, ◌<◌, true, false, List, [], ◌∷◌, ◌++◌, length}
 use Rattle.std.proofs.Math.Option.{none}
 use Rattle.laws.specs.Fix.{pick}
 use Rattle.laws.specs.Splice.{splice}
@@ -17,7 +17,6 @@ use Rattle.conversion.specs.Written.{word}
 use Rattle.scope.specs.declared.Scope.{Scope}
 use Rattle.scope.specs.Open.{more, open_name_at, name_slot_at, scope_at}
 use Rattle.functions.specs.declared.parameters.Parameters.{Parameters}
-use Rattle.functions.specs.declared.parameters.Parameters.TheVariants as Parameters
 use Rattle.syntax.specs.Places.{function_of}
 use Rattle.expressions.specs.Slots.{original_of, original_word, Ready}
 use Rattle.expressions.specs.Answers.{refusal}

@@ -5,7 +5,7 @@ use Prim.Native.Nat.{ℕ, ◌+◌, ◌*◌, ◌^◌, ◌<◌}
 use mir.Syntax.{w128}
 use mir.Val.{to_z, of_z}
 use Rattle.int128.specs.declared.Int128.{Int128}
-use Rattle.int128.specs.Value.{bits_of, value_of}
+use Rattle.int128.specs.Value.{value_of}
 use Rattle.int128.proofs.Whole.{Sized, bits_back}
 
 pub by_halves : (op : ℕ → ℕ → ℕ) → ((k a b r s : ℕ) → r < 2 ^ k → s < 2 ^ k → op (a * 2 ^ k + r) (b * 2 ^ k + s) ≡ op a b * 2 ^ k + op r s)

@@ -3,19 +3,18 @@
 use mathlib.Core.Path.{◌≡◌, refl, sym, ap, ◌∙◌, subst}
 use mathlib.Core.Logic.{⊎_elim}
 use mathlib.Core.Option.{Option, none, some}
-use Prim.Native.Nat.{ℕ, zero, suc, ◌+◌, ◌-◌, ◌*◌, ◌/◌, ◌%◌, ◌^◌, ◌≤◌, ◌<◌}
+use Prim.Native.Nat.{ℕ, suc, ◌+◌, ◌-◌, ◌*◌, ◌/◌, ◌%◌, ◌^◌, ◌≤◌, ◌<◌}
 use native.Mathlib.Nat.{le_trans, lt_of_le_of_lt, div-le_self}
 use native.Mathlib.Omega.{arith}
 use lib.Dec.{lit≤, lit<}
-use lib.IntN.{ℤ, pos, negsuc}
-use lib.Signed.{shr_z}
+use lib.IntN.{ℤ, negsuc}
 use mir.Syntax.{w128}
-use mir.Val.{to_z, of_z}
+use mir.Val.{to_z}
 use mir.ValLaws.{to_z_pos, to_z-neg}
 use borrow.Author.Tests.{le-ltb, lt-ltb}
 use Rattle.int128.specs.declared.Int128.{Int128}
 use Rattle.int128.specs.Value.{bits_of, value_of}
-use Rattle.int128.specs.Ops.{shl_of, shr_of, by_count, not_of}
+use Rattle.int128.specs.Ops.{shl_of, shr_of, by_count}
 use Rattle.int128.proofs.Difference.{lt-or_ge}
 use Rattle.int128.proofs.Halves.{above, positive}
 use Rattle.int128.proofs.Whole.{Sized, less, more, bits_back}

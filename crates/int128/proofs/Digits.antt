@@ -1,9 +1,8 @@
 -- Long division by digits: the estimate of a digit from leading parts, its correction, the step from one digit to the next, and the remainder.
 -- All over any numbers; a quotient is compared by multiplying out.
-use mathlib.Core.Path.{◌≡◌, refl, sym, ap, ap₂, ◌∙◌, subst}
-use mathlib.Core.Logic.{⊎_elim}
-use Prim.Native.Nat.{ℕ, zero, suc, ◌+◌, ◌-◌, ◌*◌, ◌/◌, ◌%◌, ◌≤◌, ◌<◌}
-use native.Mathlib.Nat.{le_refl, le_trans, le_of_eq, lt_of_lt_of_le, lt_of_le_of_lt, le_antisymm, mul-le-mul_left, mul-le-mul_right, mul_comm, mul_assoc, mul-add, add-mul, add_assoc, mod-lt, div-add-mod', div-mul-le_self, lt-div-mul-add, le-div_iff_mul-le, div-lt_iff_lt-mul, suc-mul}
+use mathlib.Core.Path.{◌≡◌, sym, ap, ap₂, ◌∙◌, subst}
+use Prim.Native.Nat.{ℕ, ◌+◌, ◌-◌, ◌*◌, ◌/◌, ◌%◌, ◌≤◌, ◌<◌}
+use native.Mathlib.Nat.{le_trans, le_of_eq, lt_of_lt_of_le, le_antisymm, mul-le-mul_left, mul-le-mul_right, mul_comm, mul_assoc, mul-add, add-mul, add_assoc, mod-lt, div-add-mod', div-mul-le_self, lt-div-mul-add, le-div_iff_mul-le, div-lt_iff_lt-mul, suc-mul}
 use native.Mathlib.Omega.{arith}
 use lib.Arith.{digits_lt, digits_div, digits_mod}
 

@@ -1,11 +1,10 @@
 -- The definitions of specs/Ops.antt at numbers whose answers Rust's documentation of i128 gives or that are plain.
 -- Each is computed.
 use mathlib.Core.Path.{◌≡◌, refl}
-use mathlib.Core.Bool.{Bool, true, false}
-use mathlib.Core.Option.{Option, none, some}
-use Prim.Native.Nat.{ℕ, ◌+◌, ◌-◌, ◌^◌}
-use lib.IntN.{ℤ, pos, negsuc, neg_ℤ}
-use Rattle.int128.specs.declared.Int128.{Int128}
+use mathlib.Core.Bool.{true, false}
+use mathlib.Core.Option.{none, some}
+use Prim.Native.Nat.{◌+◌, ◌-◌, ◌^◌}
+use lib.IntN.{ℤ, pos, neg_ℤ}
 use Rattle.int128.specs.Value.{value_of}
 use Rattle.int128.specs.Ops.{add_of, sub_of, mul_of, neg_of, div_of, rem_of, not_of, and_of, or_of, xor_of, shl_of, shr_of, by_count, int_fits}
 

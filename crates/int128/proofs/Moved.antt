@@ -1,8 +1,8 @@
 -- Shifts of a whole by its halves, for halves in a base W = Q * P: by less than a half's width (times P, or over P), and by a half's width or more.
 -- A remainder or a quotient is read off the number written as digits, `q * m + r` with r below m.
-use mathlib.Core.Path.{◌≡◌, refl, sym, ap, ap₂, ◌∙◌, subst}
-use Prim.Native.Nat.{ℕ, zero, suc, ◌+◌, ◌-◌, ◌*◌, ◌/◌, ◌%◌, ◌^◌, ◌≤◌, ◌<◌, zero-le}
-use native.Mathlib.Nat.{add-zero, add-mul, mul_assoc, mul_comm, mul-add, mul_left_comm, add_comm, add_assoc, add_left_comm, mod-lt, mul-div_cancel, mul-mod_left, div-add-mod', mul-div-mul_right, div-lt_iff_lt-mul, mul-add-mod_self_right, add-mul-div_right, div-div-eq-div-mul, mul-add-div_right, lt_of_le_of_lt, mul-one, mod-eq_of_lt, div-one}
+use mathlib.Core.Path.{◌≡◌, sym, ap, ap₂, ◌∙◌, subst}
+use Prim.Native.Nat.{ℕ, ◌+◌, ◌-◌, ◌*◌, ◌/◌, ◌%◌, ◌^◌, ◌≤◌, ◌<◌, zero-le}
+use native.Mathlib.Nat.{add-zero, add-mul, mul_assoc, mul_comm, add_assoc, mod-lt, mul-div_cancel, mul-mod_left, div-add-mod', mul-div-mul_right, div-lt_iff_lt-mul, mul-add-mod_self_right, div-div-eq-div-mul, mul-add-div_right, lt_of_le_of_lt, mul-one, mod-eq_of_lt, div-one}
 use native.Mathlib.Omega.{arith}
 use lib.Arith.{digits_lt, digits_div, digits_mod, mod-mul}
 use lib.Pow.{pow_pos, pow-add}

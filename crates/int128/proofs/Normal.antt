@@ -1,8 +1,8 @@
 -- A divisor shifted so that its top bit is bit 63: what the shift is, and that it leaves quotient and remainder as they were.
 -- The library's law of leading zeros, and powers of two split at the shift.
-use mathlib.Core.Path.{◌≡◌, refl, sym, ap, ap₂, ◌∙◌, subst}
-use Prim.Native.Nat.{ℕ, zero, suc, ◌+◌, ◌-◌, ◌*◌, ◌/◌, ◌%◌, ◌^◌, ◌≤◌, ◌<◌, zero-le}
-use native.Mathlib.Nat.{le_trans, le_of_eq, lt_of_lt_of_le, lt_of_le_of_lt, suc_inj, add-suc, add_comm, mul-le-mul_left, mul-le-mul_right, mul-lt-mul_of_pos_right, lt_of_mul-lt-mul_right, mul_comm, mul_assoc, le-add_right, mod-eq_of_lt, mul-div-mul_right, mul-div_cancel, mul-mod_left, add-zero, div-lt_iff_lt-mul, le-div_iff_mul-le}
+use mathlib.Core.Path.{◌≡◌, sym, ap, ap₂, ◌∙◌, subst}
+use Prim.Native.Nat.{ℕ, suc, ◌+◌, ◌-◌, ◌*◌, ◌/◌, ◌%◌, ◌^◌, ◌≤◌, ◌<◌}
+use native.Mathlib.Nat.{le_trans, le_of_eq, lt_of_lt_of_le, lt_of_le_of_lt, suc_inj, add-suc, add_comm, mul-le-mul_left, mul-le-mul_right, mul-lt-mul_of_pos_right, lt_of_mul-lt-mul_right, mul_comm, mul_assoc, le-add_right, mul-div-mul_right, mul-div_cancel, mul-mod_left, add-zero, div-lt_iff_lt-mul, le-div_iff_mul-le}
 use native.Mathlib.Omega.{arith}
 use lib.Arith.{digits_lt, mod-mul}
 use lib.Pow.{pow_pos, pow-add, pow_mono, shl_lt}

@@ -1,9 +1,8 @@
 -- The product of a magnitude and a word by the words' products, and of two magnitudes where one is a word or neither is.
 -- `Moved.spread` gives the digits; a product that does not fit has a digit above the second.
-use mathlib.Core.Path.{◌≡◌, refl, sym, ap, ap₂, ◌∙◌, subst}
-use Prim.Native.Nat.{ℕ, zero, suc, ◌+◌, ◌-◌, ◌*◌, ◌^◌, ◌≤◌, ◌<◌}
+use mathlib.Core.Path.{◌≡◌, sym, ap, ◌∙◌, subst}
+use Prim.Native.Nat.{ℕ, ◌+◌, ◌*◌, ◌^◌, ◌≤◌}
 use native.Mathlib.Nat.{le_trans, le_of_eq, mul-le-mul_left, mul-le-mul_right, mul_comm, le-add_right, zero-mul, zero-add, add_comm}
-use native.Mathlib.Omega.{arith}
 use Rattle.int128.specs.declared.Int128.{Int128}
 use Rattle.int128.specs.declared.product.Product.{Product}
 use Rattle.int128.specs.Value.{bits_of}

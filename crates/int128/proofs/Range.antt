@@ -1,14 +1,13 @@
 -- Two's complement of 128 bits as a difference, and which differences lie in the range -2 ^ 127 .. 2 ^ 127 - 1.
 -- By the laws of `Difference`; the library's laws of `to_z` and `of_z` give the rest.
-use mathlib.Core.Path.{◌≡◌, refl, sym, ap, ◌∙◌, subst}
-use mathlib.Core.Bool.{Bool, true, false, cond}
-use mathlib.Core.Option.{Option, none, some}
-use Prim.Native.Nat.{ℕ, zero, suc, ◌+◌, ◌-◌, ◌*◌, ◌^◌, ◌≤◌, ◌<◌}
+use mathlib.Core.Path.{◌≡◌, sym, ap, ◌∙◌}
+use mathlib.Core.Option.{none, some}
+use Prim.Native.Nat.{ℕ, suc, ◌+◌, ◌-◌, ◌^◌, ◌≤◌, ◌<◌}
 use native.Mathlib.Omega.{arith}
-use lib.IntN.{ℤ, pos, negsuc, neg_ℤ, sub_ℕ}
+use lib.IntN.{ℤ, pos, negsuc, sub_ℕ}
 use lib.Signed.{mag}
 use mir.Syntax.{w128}
-use mir.Val.{to_z, of_z, Fits, SFits}
+use mir.Val.{to_z}
 use mir.ValLaws.{to_z-Fits}
 use borrow.Author.Tests.{lt-ltb, le-ltb, le-leb, lt-leb}
 use Rattle.int128.specs.Ops.{exact, exact_in}

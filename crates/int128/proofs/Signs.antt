@@ -1,18 +1,18 @@
 -- What the sum of two numbers of 128 bits and a carry in is, from the 128 bits that remain of it: by the signs of the two and of those bits.
 -- Each case reads the three as differences (`Range`), and the rest is linear in the bits, with 2 ^ 127 and 2 ^ 128 as variables.
-use mathlib.Core.Path.{◌≡◌, refl, sym, ap, ap₂, ◌∙◌, subst}
+use mathlib.Core.Path.{◌≡◌, refl, sym, ap, ap₂, ◌∙◌}
 use mathlib.Core.Logic.{◌⊎◌, inl, inr, ⊎_elim}
 use mathlib.Core.Option.{Option, none, some}
-use Prim.Native.Nat.{ℕ, zero, suc, ◌+◌, ◌-◌, ◌*◌, ◌^◌, ◌≤◌, ◌<◌}
+use Prim.Native.Nat.{ℕ, ◌+◌, ◌*◌, ◌^◌, ◌≤◌, ◌<◌}
 use native.Mathlib.Nat.{zero-mul, one-mul, add_comm}
 use native.Mathlib.Omega.{arith}
-use lib.IntN.{ℤ, pos, negsuc, neg_ℤ, sub_ℕ, ◌+ℤ◌, +ℤ_comm}
+use lib.IntN.{ℤ, pos, sub_ℕ, ◌+ℤ◌, +ℤ_comm}
 use mir.Syntax.{w128}
 use mir.Val.{to_z}
 use Rattle.int128.specs.declared.Int128.{Int128}
 use Rattle.int128.specs.Value.{bits_of, value_of}
 use Rattle.int128.specs.Ops.{exact}
-use Rattle.int128.proofs.Difference.{lt-or_ge, sub-zero, sub-add, sub-eq}
+use Rattle.int128.proofs.Difference.{lt-or_ge, sub-zero, sub-add}
 use Rattle.int128.proofs.Range.{low, high, exact-is, exact_above, exact_below}
 use Rattle.int128.proofs.Whole.{Sized, fits, less, more}
 

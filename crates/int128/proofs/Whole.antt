@@ -1,10 +1,10 @@
 -- An `Int128` whole: the bound of its bits by its halves, its value as a difference by its sign, and the bits back from the value.
 -- The laws of `Halves` at 2 ^ 64 and of `Range`.
 use mathlib.Core.Path.{◌≡◌, sym, ap, ◌∙◌}
-use Prim.Native.Nat.{ℕ, ◌+◌, ◌*◌, ◌^◌, ◌≤◌, ◌<◌}
-use lib.IntN.{ℤ, sub_ℕ}
+use Prim.Native.Nat.{◌^◌, ◌≤◌, ◌<◌}
+use lib.IntN.{sub_ℕ}
 use mir.Syntax.{w128}
-use mir.Val.{to_z, of_z}
+use mir.Val.{of_z}
 use mir.ValLaws.{of_z-to_z}
 use Rattle.int128.specs.declared.Int128.{Int128}
 use Rattle.int128.specs.Value.{bits_of, value_of}

@@ -1,7 +1,7 @@
 -- The whole number that an `Int128` stands for, and the answer that a `Checked` holds.
 -- The numbers are the library's integers ℤ: `pos n` is n, and `negsuc n` is -(n + 1). Two's complement is the library's own, which the
 -- machine's signed operations are stated by: `to_z w128 n` reads 128 bits as a signed number, `of_z w128 z` gives the bits of z.
-use Rattle.std.specs.Prelude.{ℕ, ◌+◌, ◌*◌, ◌^◌, Bool, ℤ, pos}
+use Rattle.std.specs.Prelude.{ℕ, ◌+◌, ◌*◌, ◌^◌, ℤ, pos}
 use Rattle.std.proofs.Math.Option.{Option, none, some}
 use Rattle.std.specs.Int.{w128}
 use Rattle.std.proofs.Common.{to_z}

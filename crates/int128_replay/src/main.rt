@@ -2,10 +2,11 @@
 // each. For each it writes a line: 1 and the halves of the answer, or 0. The file stdout has what Rust's i128 answers.
 #![tactic(auto)]
 
-ghost use Rattle.std.specs.Prelude.{◌+◌, ◌≤◌, ◌<◌};
+ghost use Rattle.std.specs.Prelude.{◌+◌, ◌≤◌, ◌<◌, length, IfOk};
 
 use int128::{Checked, Int128};
-use libc::{STDIN_FILENO, STDOUT_FILENO};
+use std::io;
+use std::io::Read;
 
 fn hex_digit(b: u8) -> u64
     ensures { result < 16 }
@@ -72,22 +73,18 @@ fn apply_other(op: u8, a: Int128, b: Int128) -> Checked {
     }
 }
 
-fn print_checked(answer: Checked) {
+fn print_checked(rt: &impl Print, answer: Checked) -> io::Result<()> {
     match answer {
         Checked::Value(x) => {
-            io::write_all(STDOUT_FILENO, b"1 ");
-            io::print_hex(STDOUT_FILENO, x.hi, 16);
-            io::write_all(STDOUT_FILENO, b" ");
-            io::print_hex(STDOUT_FILENO, x.lo, 16);
+            let hi = x.hi;
+            let lo = x.lo;
+            println!(rt; "1 {hi:016x} {lo:016x}")
         }
-        Checked::Nothing => {
-            io::write_all(STDOUT_FILENO, b"0");
-        }
+        Checked::Nothing => println!(rt; "0"),
     }
-    io::write_all(STDOUT_FILENO, b"\n");
 }
 
-fn run(line: &[u8; 66]) {
+fn run(rt: &impl Print, line: &[u8; 66]) -> io::Result<()> {
     let op = line[0];
     let a = Int128 {
         hi: hex_word(line, 1),
@@ -97,26 +94,43 @@ fn run(line: &[u8; 66]) {
         hi: hex_word(line, 33),
         lo: hex_word(line, 49),
     };
-    print_checked(apply(op, a, b));
+    print_checked(rt, apply(op, a, b))
+}
+
+// Reads until the buffer is full or the input ends; says how many bytes there were.
+fn read_full<R: Read>(input: &mut R, buffer: &mut [u8]) -> io::Result<usize>
+    ensures { IfOk result (λ n. n ≤ length buffer.new) }
+{
+    let mut n = 0;
+    for _ in 0..u64::MAX {
+        let m = input.read(&mut buffer[n..])?;
+        if m == 0 {
+            break;
+        }
+        n += m;
+    }
+    Ok(n)
 }
 
 // One case; false where none is left.
-fn next_line() -> bool {
+fn next_line<R: Read>(rt: &impl Print, input: &mut R) -> io::Result<bool> {
     let mut line = [0u8; 66];
-    let n = io::read_full(STDIN_FILENO, &mut line);
+    let n = read_full(input, &mut line)?;
     if n < 66 {
-        return false;
+        return Ok(false);
     }
-    run(&line);
-    true
+    run(rt, &line)?;
+    Ok(true)
 }
 
-fn main() {
+fn main(rt: HostRuntime) -> io::Result<()> {
+    let mut input = rt.reader();
     let mut left: u32 = 100_000;
     while 0 < left {
-        if !next_line() {
-            return;
+        if !next_line(&rt, &mut input)? {
+            return Ok(());
         }
         left -= 1;
     }
+    Ok(())
 }

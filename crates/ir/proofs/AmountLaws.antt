@@ -2,7 +2,7 @@
 -- The counters count the tables, whose lengths the definition's bounds are about; the rest is arithmetic. Assumes nothing.
 use mathlib.Core.Path.{◌≡◌, sym, ◌∙◌}
 use mathlib.Core.List.{List, ◌++◌}
-use Prim.Native.Nat.{ℕ, ◌+◌, ◌≤◌}
+use Prim.Native.Nat.{ℕ, ◌≤◌}
 use native.Mathlib.Omega.{arith}
 use lib.ListN.{length-append}
 use Rattle.conversion.specs.Ir.{Out, made, failed, M}

@@ -1,15 +1,15 @@
 -- Floats: a number that equals itself is no NaN, and bits that are no NaN's come back from their f64.
 -- By the laws of lib.Ieee. Assumes nothing.
-use mathlib.Core.Path.{◌≡◌, refl, sym, ap, ◌∙◌, subst}
-use mathlib.Core.Bool.{Bool, true, false, not}
-use Prim.Native.Nat.{ℕ, ◌^◌, ◌<◌}
+use mathlib.Core.Path.{◌≡◌, sym, ap, ◌∙◌, subst}
+use mathlib.Core.Bool.{Bool, false, not}
+use Prim.Native.Nat.{ℕ}
 use lib.Dec.{T}
-use lib.Ieee.{Float, nan, inf, fin, binary64, ne, eq, is_nan, nan_bits, of_bits, to_bits}
+use lib.Ieee.{Float, nan, inf, fin, binary64, ne, eq, is_nan, nan_bits, of_bits}
 use lib.Ieee.Bits.{nan_bits_is, to_bits-of_bits}
 use mir.Syntax.{w64}
 use mir.Val.{Fits}
 use Rattle.ir.specs.Floats.{bits_of_float, entry, entry_of_float}
-use Rattle.ir.specs.declared.floats.FloatBits.TheVariants.{Number, Nan}
+use Rattle.ir.specs.declared.floats.FloatBits.TheVariants.{Number}
 
 pub same-no_nan : (x : Float) → ne x x ≡ false → T (not (is_nan x))
 unfolding is_nan ne eq

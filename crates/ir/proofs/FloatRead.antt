@@ -1,7 +1,7 @@
 -- A float read back: the words of an entry are its bits and its mark, `float_bits` is two of them, and the entry that `float_id` numbers is the one asked for.
 -- By the table's law, and by where the search finds it. Assumes nothing.
-use mathlib.Core.Path.{◌≡◌, refl, sym, ap, ap₂, ◌∙◌, subst}
-use mathlib.Core.Bool.{Bool, true, false, beq}
+use mathlib.Core.Path.{◌≡◌, refl, sym, ap, ◌∙◌, subst}
+use mathlib.Core.Bool.{Bool, true, false}
 use mathlib.Core.List.{List, [], ◌∷◌, ◌++◌}
 use mathlib.Core.Option.{Option, none, some}
 use Prim.Native.Nat.{ℕ, zero, suc, ◌+◌, ◌*◌, ◌≤◌, ◌<◌}
@@ -9,8 +9,6 @@ use native.Mathlib.Omega.{arith}
 use lib.Dec.{eqb}
 use lib.ListN.{length, get_or, length-append}
 use lib.Seq.{get_or-append-add}
-use borrow.Author.Tests.{eqb-true}
-use Rattle.laws.proofs.Tests.{and_left, and_right}
 use Rattle.records.specs.Words.{word_at}
 use Rattle.conversion.specs.Ir.{FloatEntry, position, numbered, same_float, float_id, float_bits}
 use Rattle.conversion.specs.Written.{bool_number}

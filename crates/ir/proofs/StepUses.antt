@@ -3,8 +3,7 @@
 use mathlib.Core.List.{List}
 use mathlib.Core.Bool.{Bool, true}
 use Prim.Native.Nat.{ℕ}
-use Rattle.conversion.specs.Ir as Ir
-use Rattle.conversion.specs.Ir.{VarId, Operand, OVar, OFloat, Cast, M, ◌>>=◌, ◌>>◌, pure, emit, new_var, float_id, float_bits}
+use Rattle.conversion.specs.Ir.{VarId, OVar, OFloat, Cast, ◌>>=◌, ◌>>◌, pure, emit, new_var, float_id, float_bits}
 use Rattle.conversion.specs.Statements.{refloat, cast_operand}
 use Rattle.ir.specs.declared.structs.Counters.{Counters}
 use Rattle.ir.specs.Floats.{entry}

@@ -4,7 +4,6 @@ use Rattle.std.specs.Prelude.{ℕ, Bool, cond, Float}
 use Rattle.std.specs.Float.{binary64}
 use Rattle.std.specs.Float.Ieee.{to_bits, is_nan}
 use Rattle.conversion.specs.Ir as Ir
-use Rattle.ir.specs.declared.floats.FloatEntry.{FloatEntry}
 use Rattle.ir.specs.declared.floats.FloatBits.{FloatBits}
 use Rattle.ir.specs.declared.floats.FloatBits.TheVariants.{Number, Nan}
 

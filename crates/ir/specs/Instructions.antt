@@ -5,7 +5,7 @@ use Rattle.std.specs.Int.{w64}
 use Rattle.std.proofs.Common.{to_z}
 use Rattle.conversion.specs.Ir as Ir
 use Rattle.conversion.specs.Ir.{OVar, OInt, OFloat, OBool, ODataAddress, ONull}
-use Rattle.conversion.specs.Written.{word, wide, tag, encode_fields, binary_kind}
+use Rattle.conversion.specs.Written.{word, wide, encode_fields, binary_kind}
 use Rattle.ir.specs.declared.structs.VarId.{VarId}
 use Rattle.ir.specs.declared.structs.Operand.{Operand}
 use Rattle.ir.specs.declared.structs.Operand.TheVariants.{Var as var, Int as int, Float as float, Bool as bool, DataAddress as dataAddress, Null as null}

@@ -20,7 +20,7 @@ use Rattle.records.specs.Words.{kind_of, detail_of, word_of, A, B, C, D, E}
 use Rattle.records.specs.Shapes.{refers, shape_of, row_of, row_at}
 use Rattle.records.specs.Rules.{list_step, refers_to, refers_from}
 use Rattle.judge.specs.Inner.{capped, class_in, depth_in, count_in, kind_in, list_number, shallow_depth, stored, later_refs, KnownBelow, Counting, Counted}
-use Rattle.judge.proofs.CapLaws.{cap_low, cap_high, cap_small, cap_cap}
+use Rattle.judge.proofs.CapLaws.{cap_high, cap_cap}
 
 -- a count that nothing is added to
 pub cap_plus : (x z : ℕ) → z ≡ 0 → capped 2 x ≡ capped 2 (x + z)

@@ -1,21 +1,21 @@
 -- What a cell's list holds, by the slots that its words lead to: the item by the table, the rest by its slot, and that both are at hand.
 -- The table is held to the definition by computing; a word that may be none goes by whether its slot is slot 0. Assumes nothing.
-use mathlib.Core.Path.{◌≡◌, refl, sym, ap, ◌∙◌}
-use Prim.Native.Nat.{ℕ, zero, suc, ◌+◌, ◌*◌, ◌≤◌, ◌<◌}
-use mathlib.Core.Bool.{Bool, true, false, not, ◌&&◌, ◌||◌, false≢true}
+use mathlib.Core.Path.{◌≡◌, refl, sym, ◌∙◌}
+use Prim.Native.Nat.{ℕ, zero, suc, ◌+◌, ◌*◌, ◌<◌}
+use mathlib.Core.Bool.{true, false, not, ◌&&◌}
 use mathlib.Core.List.{List}
 use native.Mathlib.Omega.{arith}
-use lib.Dec.{eqb, leb}
-use lib.ListN.{length, get_or}
-use borrow.Author.Tests.{eqb-true, eqb-false, eq-eqb, ne_eqb, le-leb, lt-leb, not-true, not-false}
+use lib.Dec.{eqb}
+use lib.ListN.{get_or}
+use borrow.Author.Tests.{eqb-true, eqb-false, ne_eqb, le-leb, lt-leb, not-true, not-false}
 use Rattle.laws.specs.Fix.{pick, below}
 use Rattle.laws.specs.Below.{all_below}
 use Rattle.laws.proofs.AllBelow.{all-at}
-use Rattle.laws.proofs.Tests.{tested, and_left, and_right}
-use Rattle.records.specs.declared.shape.Role.TheVariants.{Item, Rest}
+use Rattle.laws.proofs.Tests.{and_left, and_right}
+use Rattle.records.specs.declared.shape.Role.TheVariants.{Rest}
 use Rattle.records.specs.Words.{most_records, kind_of, word_of, none, C}
 use Rattle.records.specs.Shapes.{row_of}
-use Rattle.judge.specs.Inner.{class_in, item_class, cell_class, class_at}
+use Rattle.judge.specs.Inner.{class_in, item_class, class_at}
 use Rattle.judge.specs.Plain.{plain_rules, item_number, Place, row_numbers, rule_rows, item_rule}
 use Rattle.judge.proofs.ListClass.{item-none, item_untyped, item-typed, class_lower, cell-last, cell_mixed, cell_same, class_cell}
 

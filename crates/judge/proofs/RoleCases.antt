@@ -2,15 +2,10 @@
 use mathlib.Core.Path.{◌≡◌, refl, sym, ◌∙◌}
 use Prim.Native.Nat.{ℕ}
 use mathlib.Core.Bool.{Bool, true, false, ◌&&◌, false≢true}
-
-use mathlib.Core.List.{List, [], ◌∷◌}
-use lib.Dec.{eqb}
-
+use mathlib.Core.List.{List}
 use Rattle.laws.proofs.Tests.{and_left, and_right}
-
 use Rattle.records.specs.declared.shape.Role.{Role}
 use Rattle.records.specs.declared.shape.Role.TheVariants.{Unused, Number, Text, Length, Expr, TypeRef, TypeOrNone, Name, Variable, Arguments, Parameters, Body, Item, Rest}
-
 use Rattle.records.specs.Shapes.{refers}
 use Rattle.records.specs.Rules.{word_ok}
 use Rattle.judge.specs.Inner.{is_unused}

@@ -19,7 +19,6 @@ use Rattle.syntax.specs.Decode.{node, functions_in, functions_below, program, te
 use Rattle.syntax.specs.Places.{IsKind, FunctionAt, function_of}
 use Rattle.syntax.proofs.Records.{node-function, name_record, mangled_record, function-name, function_mangled}
 use Rattle.records.specs.declared.words.Found.{Found}
-use Rattle.records.specs.declared.words.Found.TheVariants as Found
 use Rattle.keys.specs.declared.parts.Part.{Part}
 use Rattle.keys.specs.Parts.{PartIs}
 use Rattle.keys.specs.Keys.{records_below, function_places, functions_of, FunctionFound, a_function, none_found}

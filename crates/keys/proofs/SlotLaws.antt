@@ -2,7 +2,7 @@
 -- `get_function` finds. By the laws of the texts' numbers and of a key looked for. Assumes nothing.
 use mathlib.Core.Path.{◌≡◌, refl, sym, ap, ◌∙◌}
 use mathlib.Core.Logic.{◌⊎◌, inl, inr}
-use mathlib.Core.Bool.{Bool, true, false, false≢true}
+use mathlib.Core.Bool.{Bool, true, false}
 use mathlib.Core.List.{List, [], ◌∷◌, ◌++◌}
 use mathlib.Core.Option.{Option, none as nothing, some}
 use Prim.Native.Nat.{ℕ, ◌+◌, ◌-◌, ◌*◌, ◌≤◌, ◌<◌}
@@ -16,7 +16,7 @@ use Rattle.laws.proofs.Splices.{length-splice}
 use Rattle.laws.proofs.Tests.{tested}
 use Rattle.records.specs.Digest.{roll_of}
 use Rattle.records.proofs.RollLaws.{roll_small}
-use Rattle.records.specs.Words.{byte_at, word_at, kind_of, word_of, text_at, bytes_of, word, records, most_records, A, B}
+use Rattle.records.specs.Words.{byte_at, word_at, word_of, bytes_of, word, records, A, B}
 use Rattle.records.specs.Kinds.{kind_name}
 use Rattle.records.specs.Chains.{Cleared}
 use Rattle.records.specs.Good.{Good}
@@ -31,8 +31,7 @@ use Rattle.syntax.proofs.Records.{name_record, mangled_record, function-name, fu
 use Rattle.texts.specs.Texts.{has_text, has_own, own_text, original, original_at, text_digest_at, Numbered}
 use Rattle.texts.proofs.TextLaws.{original-below, original-has, original-text, same_numbers}
 use Rattle.records.specs.declared.words.Found.{Found}
-use Rattle.records.specs.declared.words.Found.TheVariants as Found
-use Rattle.keys.specs.Keys.{function_key, key_record, key_slot_at, SlotSays, KeySlots, key_entered, function_found, FindsKey, FindsOwnKey, a_function, none_found}
+use Rattle.keys.specs.Keys.{function_key, key_record, key_slot_at, KeySlots, key_entered, function_found, FindsKey, FindsOwnKey, a_function, none_found}
 use Rattle.keys.proofs.KeyLaws.{find_hit, find_miss, find_later, find_sooner, key_mangled, key_plain}
 
 -- ---- a key looked for, with one function more

@@ -20,7 +20,6 @@ use Rattle.conversion.specs.Functions.{get_all_functions}
 use Rattle.syntax.specs.Places.{FunctionAt, function_of}
 use Rattle.texts.specs.Texts.{has_own, own_text, original, original_at, text_digest_at, Numbered}
 use Rattle.records.specs.declared.words.Found.{Found}
-use Rattle.records.specs.declared.words.Found.TheVariants as Found
 
 -- a function's key is its name if it is external or `main`, else its mangled name
 unfoldable pub function_key : Function → Text

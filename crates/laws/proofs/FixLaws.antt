@@ -1,6 +1,6 @@
 -- The equation of `fix`, for a step that looks below its number alone; and laws of `pick` and `below`.
 -- By induction on the steps down: two numbers of steps that suffice give the same. Assumes nothing.
-use mathlib.Core.Path.{◌≡◌, refl, sym, ap, ◌∙◌}
+use mathlib.Core.Path.{◌≡◌, refl}
 use Prim.Native.Nat.{ℕ, zero, suc, ◌≤◌, ◌<◌}
 use mathlib.Core.Bool.{Bool, true, false}
 use native.Mathlib.Omega.{arith}

@@ -1,11 +1,11 @@
 -- Laws of `splice`: how long it is, what a run of stores is, two in a row, and what a part of the list is afterwards: before it, behind it, grown by it; and how long a list filled up is.
 -- By the laws of `take` and `drop` over the three pieces. Assumes nothing.
 use mathlib.Core.Path.{◌≡◌, refl, sym, ap, ◌∙◌}
-use mathlib.Core.List.{List, [], ◌∷◌, ◌++◌, append_assoc, append-nil}
+use mathlib.Core.List.{List, ◌++◌, append_assoc}
 use Prim.Native.Nat.{ℕ, suc, ◌+◌, ◌-◌, ◌≤◌, ◌<◌}
-use native.Mathlib.Nat.{add_assoc, add-zero}
+use native.Mathlib.Nat.{add_assoc}
 use native.Mathlib.Omega.{arith}
-use lib.ListN.{length, take, drop, get_or, set, replicate, length-append, length-drop, length-replicate, take-append-drop}
+use lib.ListN.{length, take, drop, get_or, replicate, length-append, length-drop, length-replicate}
 use lib.Seq.{length-take-le, take_at, drop_at, drop-drop, sets, sets-eq, take-append-le, drop-append-le, take-take, take-add, get_or-take, get_or-drop}
 use Rattle.laws.specs.Splice.{splice, filled}
 

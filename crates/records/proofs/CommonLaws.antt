@@ -1,20 +1,15 @@
 -- How far two texts agree: at most to the end of either, as far with a third as with the second where that agrees further; from a known beginning on; of parts of a buffer.
 -- By induction on the texts. Assumes nothing.
-use mathlib.Core.Path.{◌≡◌, refl, sym, ap, ap₂, ◌∙◌}
-use mathlib.Core.Bool.{Bool, true, false, false≢true}
+use mathlib.Core.Path.{◌≡◌, refl, sym, ap, ◌∙◌}
 use mathlib.Core.List.{List, [], ◌∷◌}
-use Prim.Native.Nat.{ℕ, zero, suc, ◌+◌, ◌-◌, ◌≤◌, ◌<◌, min}
-use native.Mathlib.Nat.{zero-add, suc-add}
+use Prim.Native.Nat.{ℕ, zero, suc, ◌+◌, ◌≤◌, ◌<◌}
 use native.Mathlib.Omega.{arith}
 use lib.Dec.{eqb}
-use lib.ListN.{length, take, drop, get_or}
-use lib.Seq.{drop-drop, take-nil, drop-nil}
+use lib.ListN.{length, drop}
 use borrow.Author.Tests.{eq-eqb, ne_eqb, eqb-true, eqb-false}
 use Rattle.laws.specs.Fix.{pick}
 use Rattle.laws.proofs.Tests.{tested}
-use Rattle.records.specs.Words.{text_at, same_text}
 use Rattle.records.specs.Order.{common}
-use Rattle.records.proofs.TextLaws.{first_byte}
 
 -- ---- one byte more
 

@@ -2,24 +2,22 @@
 -- Word for word, and by the laws of chains. Assumes nothing.
 use mathlib.Core.Path.{◌≡◌, refl, sym, ap, ◌∙◌}
 use mathlib.Core.Logic.{◌⊎◌, inl, inr}
-use mathlib.Core.Bool.{Bool, true, false}
-use mathlib.Core.List.{List, [], ◌∷◌, ◌++◌}
-use Prim.Native.Nat.{ℕ, suc, ◌+◌, ◌*◌, ◌≤◌, ◌<◌}
+use mathlib.Core.List.{List, [], ◌++◌}
+use Prim.Native.Nat.{ℕ, ◌+◌, ◌*◌, ◌≤◌, ◌<◌}
 use native.Mathlib.Numerals.{add-one}
 use native.Mathlib.Omega.{arith}
 use lib.Dec.{eqb}
 use lib.ListN.{length, get_or}
 use borrow.Author.Tests.{eqb-true, eqb-false}
-use Rattle.laws.specs.All.{All}
 use Rattle.laws.specs.Splice.{splice}
 use Rattle.laws.proofs.Splices.{length-splice}
 use Rattle.laws.proofs.Tests.{tested}
 use Rattle.records.specs.Chains.{head_at, entry_at, ChainRoom}
 use Rattle.records.specs.Words.{byte_at, word_at, bytes_of, word}
-use Rattle.records.specs.Order.{common, chain_of, first_with, link_place, LinkedChain, Placed, Leads, PlaceIn, PlaceOf, placed_at}
+use Rattle.records.specs.Order.{chain_of, Placed, Leads, PlaceIn, PlaceOf, placed_at}
 use Rattle.records.proofs.Apart.{byte-apart, word-apart, word-there, word_back}
 use Rattle.records.proofs.PlacedLaws.{all_map, placed-found, chain-here, chain-other, chain-below, chain-ordered, chain-short}
-use Rattle.records.proofs.LinkedLaws.{Off, Stays, all_of, linked-kept, place-holds, placed-more}
+use Rattle.records.proofs.LinkedLaws.{linked-kept, place-holds, placed-more}
 
 -- ---- the words
 

@@ -1,23 +1,22 @@
 -- Chains in bytes: a link leads to one chain, which stays where its entries do; with a number placed in the chain of its bucket, the others are as they were.
 -- By induction on the chain, over the words that the writing of an entry leaves. Assumes nothing.
 use mathlib.Core.Path.{◌≡◌, refl, sym, ap, ap₂, subst, ◌∙◌}
-use mathlib.Core.Bool.{Bool, true, false}
+use mathlib.Core.Bool.{false}
 use mathlib.Core.List.{List, [], ◌∷◌}
-use mathlib.Core.Logic.{◌⊎◌, inl, inr, ⊎_elim}
-use Prim.Native.Nat.{ℕ, zero, suc, ◌+◌, ◌*◌, ◌≤◌, ◌<◌}
+use mathlib.Core.Logic.{◌⊎◌, inl, inr}
+use Prim.Native.Nat.{ℕ, zero, suc, ◌+◌, ◌≤◌, ◌<◌}
 use native.Mathlib.Numerals.{add-one}
 use native.Mathlib.Omega.{arith}
 use lib.Dec.{eqb, ltb}
 use lib.ListN.{length}
-use borrow.Author.Tests.{eqb-true, eqb-false, ltb-true, ltb-false, lt-ltb, le-ltb}
+use borrow.Author.Tests.{eqb-true, eqb-false, ltb-true, ltb-false}
 use Rattle.laws.specs.All.{All}
-use Rattle.laws.specs.Fix.{pick}
 use Rattle.laws.proofs.Tests.{tested}
 use Rattle.records.specs.Chains.{head_at, entry_at}
-use Rattle.records.specs.Words.{byte_at, word_at, same_text}
-use Rattle.records.specs.Order.{common, placed_in, chain_of, first_with, link_place, text_before, Ordered, LinkedChain, Placed}
+use Rattle.records.specs.Words.{word_at, same_text}
+use Rattle.records.specs.Order.{common, placed_in, chain_of, first_with, link_place, text_before, LinkedChain, Placed}
 use Rattle.records.proofs.CommonLaws.{common-other}
-use Rattle.records.proofs.PlacedLaws.{all_map, Distinct, placed-here, placed_on, placed-found, place_here, place-on, text-here, text-on, first-not, chain-here, chain-other, chain-inside, chain-below, chain-ordered, chain-distinct}
+use Rattle.records.proofs.PlacedLaws.{all_map, Distinct, placed-here, placed_on, place_here, place-on, text-here, text-on, first-not, chain-here, chain-other, chain-inside, chain-below, chain-distinct}
 
 pub all_of : {P : ℕ → Type 0} (l : List ℕ) → ((e : ℕ) → P e) → All P l
 all_of [] f = tt

@@ -1,7 +1,7 @@
 -- A number placed in a chain: the order stays, what all entries have they keep, a text that an entry has is found, and the chain of a bucket has the first number with each text.
 -- By induction on the chain, by the laws of common beginnings. Assumes nothing.
 use mathlib.Core.Path.{◌≡◌, refl, sym, ap, ◌∙◌}
-use mathlib.Core.Bool.{Bool, true, false, false≢true}
+use mathlib.Core.Bool.{Bool, true, false}
 use mathlib.Core.List.{List, [], ◌∷◌}
 use mathlib.Core.Logic.{◌⊎◌, inl, inr, ⊎_elim}
 use Prim.Native.Nat.{ℕ, zero, suc, ◌+◌, ◌≤◌, ◌<◌}
@@ -19,7 +19,6 @@ use Rattle.records.specs.Words.{same_text}
 use Rattle.records.specs.Order.{common, placed_in, chain_of, first_with, link_place, text_before, Ordered}
 use Rattle.records.proofs.CommonLaws.{common-other}
 use Rattle.records.proofs.DigestLaws.{same-equal}
-use Rattle.records.proofs.TextLaws.{same-texts}
 
 pub all_map : {P Q : ℕ → Type 0} (l : List ℕ) → ((e : ℕ) → P e → Q e) → All P l → All Q l
 all_map [] f a = tt

@@ -1,20 +1,20 @@
 -- How far two parts of a buffer agree: a byte more, a run more, the end; and of two texts whether they are the same.
 -- By the laws of common beginnings. Assumes nothing.
 use mathlib.Core.Path.{◌≡◌, refl, sym, ap, ap₂, ◌∙◌}
-use mathlib.Core.Bool.{Bool, true, false, ◌&&◌, false≢true}
+use mathlib.Core.Bool.{Bool, true, ◌&&◌, false≢true}
 use mathlib.Core.List.{List, [], ◌∷◌}
 use Prim.Native.Nat.{ℕ, zero, suc, ◌+◌, ◌-◌, ◌≤◌, ◌<◌, min}
 use native.Mathlib.Omega.{arith}
 use lib.Dec.{eqb, leb}
 use lib.ListN.{length, take, drop, get_or}
 use lib.Seq.{drop-drop, take-nil, take-take}
-use borrow.Author.Tests.{eq-eqb, ne_eqb, eqb-true, eqb-false, leb-true, leb-false}
+use borrow.Author.Tests.{eq-eqb, ne_eqb, eqb-true, leb-true, leb-false}
 use Rattle.laws.specs.Fix.{pick}
 use Rattle.laws.proofs.Tests.{tested, and_left, and_right}
 use Rattle.records.specs.Words.{word_of, text_at, same_text, A, B}
 use Rattle.records.specs.Order.{common, record_text, Agrees}
-use Rattle.records.proofs.CommonLaws.{common-left, common-right, common-from, common_self}
-use Rattle.records.proofs.TextLaws.{first_byte, text-length, text-taken, text-inside, same-texts, other-lengths}
+use Rattle.records.proofs.CommonLaws.{common-left, common-from, common_self}
+use Rattle.records.proofs.TextLaws.{first_byte, text-length, text-taken, text-inside, same-texts}
 use Rattle.records.proofs.DigestLaws.{same-equal}
 
 -- ---- parts of a buffer

@@ -1,18 +1,18 @@
 -- The walk along a chain to a record's place: what is known at each entry, and what a stop there shows of the place.
 -- By the laws of common beginnings and of chains. Assumes nothing.
-use mathlib.Core.Path.{◌≡◌, refl, sym, ap, ◌∙◌}
-use mathlib.Core.Bool.{Bool, true, false, false≢true}
+use mathlib.Core.Path.{◌≡◌, sym, ap, ◌∙◌}
+use mathlib.Core.Bool.{Bool, true, false}
 use mathlib.Core.List.{List, [], ◌∷◌}
-use Prim.Native.Nat.{ℕ, zero, suc, ◌+◌, ◌*◌, ◌≤◌, ◌<◌}
+use Prim.Native.Nat.{ℕ, ◌+◌, ◌≤◌, ◌<◌}
 use native.Mathlib.Omega.{arith}
-use lib.Dec.{eqb, ltb}
+use lib.Dec.{ltb}
 use lib.ListN.{length}
 use borrow.Author.Tests.{lt-ltb, le-ltb}
 use Rattle.laws.specs.All.{All}
 use Rattle.laws.proofs.Tests.{tested}
 use Rattle.records.specs.Chains.{entry_at, ChainRoom}
 use Rattle.records.specs.Words.{word_at, same_text}
-use Rattle.records.specs.Order.{common, Agrees, first_with, link_place, text_before, Ordered, LinkedChain, Leads, PlaceIn, PlaceOf}
+use Rattle.records.specs.Order.{common, Agrees, first_with, link_place, text_before, Ordered, LinkedChain, Leads, PlaceOf}
 use Rattle.records.proofs.CommonLaws.{common_empty, common-other, common-least}
 use Rattle.records.proofs.DigestLaws.{same-equal}
 use Rattle.records.proofs.PlacedLaws.{first-same, first_on, first-none, place_here, place-on, text-here, text-on}

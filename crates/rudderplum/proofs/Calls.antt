@@ -19,7 +19,6 @@ use Rattle.judge.specs.declared.Judged.{Judged}
 use Rattle.demands.specs.Call.{Refusal, Counted}
 use Rattle.converter.specs.declared.Counts.{Counts}
 use Rattle.converter.specs.declared.Answer.{Answer}
-use Rattle.converter.specs.declared.Answer.TheVariants as Answer
 use Rattle.converter.specs.Convert.{counts_from, answer_from, Promised}
 use Rattle.rudderplum.specs.Boundary.{answer_bytes, judged_words, roomy, returned, Lent, answered_in, judge_call, conversion_bytes, roomy_for_eight, returned_eight, converted_in, call_converted}
 

@@ -1,6 +1,6 @@
 -- The boundary that C and Rust call over: an answer as bytes in a lent buffer, and what each lent buffer holds afterwards.
 -- Assumes nothing: these are definitions.
-use Rattle.std.specs.Prelude.{ℕ, Bool, true, false, not, List, ◌++◌, eqb, leb, length}
+use Rattle.std.specs.Prelude.{ℕ, Bool, not, List, ◌++◌, eqb, leb, length}
 use Rattle.laws.specs.Fix.{pick}
 use Rattle.laws.specs.Splice.{splice}
 use Rattle.records.specs.Words.{none, word}

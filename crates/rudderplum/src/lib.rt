@@ -1,4 +1,4 @@
-// The library that C and Rust link: each call lends its buffers, and the answer comes back as words in a buffer too.
+// The boundary for C and Rust, which `rudderplum_c` exports: each call lends its buffers, and the answer comes back as words in a buffer too.
 #![tactic(auto)]
 
 ghost use Rattle.std.specs.Prelude.{◌≡◌, ◌++◌, ◌%◌, ◌≤◌, length};
@@ -44,8 +44,7 @@ pub fn answer_words(tree: &[u8], judged: Judged) -> AnswerWords
 
 // Judges a tree. The answer's buffer takes 16 bytes: the words number (0 for accepted), place (FFFFFFFF for none), span
 // start and span end. Returns 1; where that buffer is shorter, returns 0 and writes nothing anywhere.
-#[unsafe(no_mangle)]
-pub extern "C" fn rudderplum_judge(
+pub fn rudderplum_judge(
     tree: &[u8],
     text: &[u8],
     instructions: &mut [u8],
@@ -125,8 +124,7 @@ fn put_conversion(buffer: &mut [u8], tree: &[u8], a: Answer)
 // Converts a tree; a `main` is needed unless `needs_main` is 0. The answer's buffer takes 32 bytes: the words 0, functions, instructions,
 // variables, labels, strings, floats and visits; or number, place (FFFFFFFF for none), span start, span end and zeros. Returns 1; where
 // that buffer is shorter, returns 0 and writes nothing anywhere.
-#[unsafe(no_mangle)]
-pub extern "C" fn rudderplum_convert(
+pub fn rudderplum_convert(
     tree: &[u8],
     text: &[u8],
     needs_main: u32,

@@ -6,13 +6,13 @@ use Prim.Native.Nat.{ℕ, ◌+◌}
 use native.Mathlib.Nat.{le_refl}
 use native.Mathlib.Omega.{arith}
 use Rattle.syntax.specs.Syntax.{Statement, SDeclare, SInit, SReturn, SCall, SIf, SIfElse, SWhile, SFor, SBreak, SContinue, Block, done, next}
-use Rattle.conversion.specs.Ir.{State, made, M, pure}
+use Rattle.conversion.specs.Ir.{State, made, pure}
 use Rattle.conversion.specs.Scope.{Scope, with_loop}
 use Rattle.conversion.specs.Statements.{convert_statement, convert_block}
 use Rattle.runs.specs.Rule.{CallsMade}
 use Rattle.runs.specs.TreeRun.{KnownName, Values, Ran, normal, bind_s, run_statement, run_block, known_after}
 use Rattle.runs.proofs.Opens.{opens_s, opens_b}
-use Rattle.runs.proofs.Machine.{Code, at, count, count-append, placed-drop}
+use Rattle.runs.proofs.Machine.{Code, count, count-append, placed-drop}
 use Rattle.runs.proofs.Invert.{grow_refl, grow_trans, inv, inv_pure}
 use Rattle.runs.proofs.Names.{known, sub_refl, sub_trans}
 use Rattle.conversion.proofs.Steps.{block_steps-is}

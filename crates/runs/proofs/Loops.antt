@@ -17,7 +17,7 @@ use Rattle.conversion.specs.Types.{on_int}
 use Rattle.conversion.specs.Ir.{Operand, OVar, OInt, Copy, Binary, Label, Jump, JumpIfNot, loop_start, loop_end, loop_check, State, made, M, fail}
 use Rattle.conversion.specs.Scope.{Variable, Scope, find_in, with_variable, with_loop}
 use Rattle.conversion.specs.Statements.{convert_while_loop, for_loop, for_int, for_known, convert_for_loop}
-use Rattle.runs.specs.Rule.{CallsMade, IntLiteral, Datum, constant, read}
+use Rattle.runs.specs.Rule.{CallsMade, IntLiteral, Datum, read}
 use Rattle.runs.specs.TreeRun as Tree
 use Rattle.runs.specs.TreeRun.{KnownName, Values, set, known_type, Got, Ran, stopped, bare, bind_o, fit, eval_expr, run_while, rounds, for_over}
 use Rattle.runs.specs.BodyRun.{Vars, write, datum, is_label, operand}

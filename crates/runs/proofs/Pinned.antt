@@ -6,7 +6,7 @@ use mathlib.Core.Bool.{true, false}
 use mathlib.Core.List.{List, [], ◌∷◌}
 use mathlib.Core.Option.{some}
 use lib.IntN.{pos}
-use Rattle.syntax.specs.Syntax.{Ty, TInt, TFloat, TBool, TChar, TByte, TAddress, TArray, TNull, EInt, EBool, ECall, no_args, Value, ToType, int_type, float_type, bool_type, null_type, address_of_char, address_of_null}
+use Rattle.syntax.specs.Syntax.{Ty, TInt, TFloat, TBool, TChar, TByte, TAddress, TArray, TNull, EInt, EBool, ECall, no_args, Value, ToType, bool_type, null_type, address_of_char, address_of_null}
 use Rattle.syntax.specs.Decode as Decode
 use Rattle.conversion.specs.Statements.{expected_type, as_call}
 use Rattle.conversion.specs.Types.{on_int, on_float, is_float}

@@ -27,7 +27,6 @@ use Rattle.ir.specs.Search.{found_of}
 use Rattle.ir.proofs.SearchLaws.{found_some, found_none}
 use Rattle.scope.specs.declared.Scope.{Scope}
 use Rattle.scope.specs.declared.Known.{Known}
-use Rattle.scope.specs.declared.Known.TheVariants as Known
 use Rattle.scope.specs.declared.Declared.TheVariants as Declared
 use Rattle.scope.specs.Open.{open_variable, variables_at, variables_of, NamesRoom, name_is, words_are, name_slot_at, open_at, ToldApart, SlotTells, VariableAt, IsFound, FindMeets, more, variable_named, name_entry, name_added, NameAfforded, DeclareMeets}
 use Rattle.scope.proofs.ScopeLaws.{Kept, kept_above, word_kept, variables-kept, with_entry, entry-fits, slot-fits, slot_keeps}

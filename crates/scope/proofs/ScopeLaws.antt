@@ -24,7 +24,6 @@ use Rattle.ir.specs.Instructions.{var_of}
 use Rattle.scope.specs.declared.Scope.{Scope}
 use Rattle.scope.specs.declared.Known.TheVariants as Known
 use Rattle.scope.specs.declared.InLoop.{InLoop}
-use Rattle.scope.specs.declared.InLoop.TheVariants as InLoop
 use Rattle.scope.specs.Open.{open_variable, variables_at, variables_of, loop_number, scope_at, NamesRoom, IsFound, FindMeets, variable_named, name_slot_at, name_entry, name_added, NameAfforded, Added, Taken, within, loop_of}
 use Rattle.records.proofs.Apart.{byte-apart, word_same}
 

@@ -17,11 +17,8 @@ use Rattle.ir.specs.declared.structs.VarId.{VarId}
 use Rattle.ir.specs.Instructions.{var_of}
 use Rattle.scope.specs.declared.Scope.{Scope}
 use Rattle.scope.specs.declared.Known.{Known}
-use Rattle.scope.specs.declared.Known.TheVariants as Known
 use Rattle.scope.specs.declared.Declared.{Declared}
-use Rattle.scope.specs.declared.Declared.TheVariants as Declared
 use Rattle.scope.specs.declared.InLoop.{InLoop}
-use Rattle.scope.specs.declared.InLoop.TheVariants as InLoop
 
 -- ---- what the scratch stands for
 

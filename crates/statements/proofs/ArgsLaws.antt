@@ -13,9 +13,9 @@ use Rattle.laws.specs.Splice.{splice}
 use Rattle.laws.proofs.Tests.{tested}
 use Rattle.records.specs.declared.shape.Role.TheVariants.{Arguments}
 use Rattle.records.specs.declared.convert_error.ConvertError.{ConvertError}
-use Rattle.records.specs.Words.{word_of, records, none, A, B, C}
+use Rattle.records.specs.Words.{word_of, records, none, B, C}
 use Rattle.records.specs.Good.{Good}
-use Rattle.syntax.specs.Syntax.{Args, no_args, ToType}
+use Rattle.syntax.specs.Syntax.{Args, no_args}
 use Rattle.syntax.specs.Count.{under, args_records, args_under, args_values}
 use Rattle.conversion.proofs.Sizes.{args_count}
 use Rattle.syntax.specs.Decode.{program}
@@ -39,12 +39,10 @@ use Rattle.scope.specs.declared.Scope.{Scope}
 use Rattle.scope.specs.Open.{scope_at}
 use Rattle.keys.specs.Keys.{all_keys}
 use Rattle.expressions.specs.declared.answers.Resolved.{Resolved}
-use Rattle.expressions.specs.declared.answers.Resolved.TheVariants as Resolved
 use types.Run.{OneOf}
 use denote.Enum.Declared.{tag_of}
 use Rattle.expressions.specs.contracts.answers.Resolved.{the_type}
 use Rattle.expressions.specs.declared.arguments.Argument.{Argument}
-use Rattle.expressions.specs.declared.arguments.Argument.TheVariants as Argument
 use Rattle.expressions.specs.Slots.{Typed}
 use Rattle.expressions.specs.Answers.{refusal, callee_of, ArgumentIs, CallMeets}
 use Rattle.expressions.proofs.SlotLaws.{scope-frame}

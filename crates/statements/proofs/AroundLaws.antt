@@ -38,11 +38,8 @@ use Rattle.laws.proofs.FixLaws.{pick_yes, pick_no}
 use Rattle.scope.specs.Open.{scope_at}
 use Rattle.keys.specs.Keys.{all_keys}
 use Rattle.expressions.specs.declared.answers.ExprType.{ExprType}
-use Rattle.expressions.specs.declared.answers.ExprType.TheVariants as ExprType
 use Rattle.expressions.specs.declared.answers.Common.{Common}
-use Rattle.expressions.specs.declared.answers.Common.TheVariants as Common
 use Rattle.expressions.specs.declared.answers.Resolved.{Resolved}
-use Rattle.expressions.specs.declared.answers.Resolved.TheVariants as Resolved
 use Rattle.expressions.specs.Slots.{common_in}
 use Rattle.expressions.specs.Answers.{refusal, type_result, common_result, callee_of, IsTyped, IsCommon, IsCallee, SidesMeet}
 use Rattle.expressions.proofs.TypingLaws.{left-expr, right-expr}

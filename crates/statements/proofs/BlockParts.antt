@@ -10,7 +10,7 @@ use denote.Enum.Declared.{tag_of}
 use Rattle.laws.specs.Fix.{pick}
 use Rattle.laws.proofs.Tests.{tested}
 use Rattle.records.specs.declared.convert_error.ConvertError.{ConvertError}
-use Rattle.records.specs.Words.{detail_of, word_of, records, A, B, C, D}
+use Rattle.records.specs.Words.{detail_of, word_of, A, B, C, D}
 use Rattle.records.specs.Good.{Good}
 use Rattle.records.proofs.GoodLaws.{if-b, if-c, while_b, for_d}
 use Rattle.syntax.specs.Syntax.{Ty, TInt, TFloat, TBool, TChar, TByte, TAddress, TArray, TCustom, TNull, Text, Expr, Program}

@@ -7,7 +7,7 @@ use Prim.Native.Nat.{ℕ, zero, suc, ◌+◌, ◌-◌, ◌≤◌, ◌<◌}
 use native.Mathlib.Omega.{arith}
 use denote.Enum.Declared.{tag_of}
 use Rattle.laws.specs.Different.{different}
-use Rattle.records.specs.Words.{kind_of, detail_of, word_of, records, A, B, C, D}
+use Rattle.records.specs.Words.{kind_of, detail_of, word_of, records, B, C, D}
 use Rattle.records.specs.Good.{Good}
 use Rattle.syntax.specs.Decode.{bit}
 use Rattle.syntax.specs.Places.{IsStatement, IsKind, statement_at}

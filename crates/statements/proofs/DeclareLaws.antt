@@ -10,9 +10,9 @@ use lib.Dec.{ltb}
 use lib.ListN.{length, get_or}
 use borrow.Author.Tests.{lt-ltb, le-ltb}
 use Rattle.laws.specs.Fix.{pick}
-use Rattle.records.specs.Words.{word_at, word_of, detail_of, text_at, records, A, B, C}
+use Rattle.records.specs.Words.{word_at, word_of, detail_of, records, A, B, C}
 use Rattle.records.specs.declared.convert_error.ConvertError.{ConvertError}
-use Rattle.records.proofs.GoodLaws.{inside, declare-c}
+use Rattle.records.proofs.GoodLaws.{declare-c}
 use Rattle.syntax.specs.Syntax.{Text, TNull, Program}
 use Rattle.syntax.specs.Count.{statement_records}
 use Rattle.syntax.specs.Decode.{program, type_at, text_of, wide_of, bit}
@@ -30,7 +30,6 @@ use Rattle.types.specs.Fits.{IsType}
 use Rattle.ir.specs.declared.structs.Counters.{Counters}
 use Rattle.ir.specs.declared.structs.NewVariable.{NewVariable}
 use Rattle.ir.specs.declared.structs.Operand.{Operand}
-use Rattle.ir.specs.declared.structs.Operand.TheVariants as Operand
 use Rattle.ir.specs.declared.structs.VarId.{VarId}
 use Rattle.ir.specs.declared.pool.PoolNumber.{PoolNumber}
 use Rattle.ir.specs.Amounts.{Amount, amount, both}
@@ -41,12 +40,9 @@ use Rattle.ir.specs.Steps.{Next, Emits, AddsVar, NumbersFloat, named}
 use Rattle.ir.proofs.StepLaws.{next_in, lift-stops, fail-stops, stop-first, then_stop}
 use Rattle.scope.specs.declared.Scope.{Scope}
 use Rattle.scope.specs.declared.Known.{Known}
-use Rattle.scope.specs.declared.Known.TheVariants as Known
 use Rattle.scope.specs.declared.Declared.{Declared}
-use Rattle.scope.specs.declared.Declared.TheVariants as Declared
 use Rattle.scope.specs.declared.InLoop.{InLoop}
-use Rattle.scope.specs.declared.InLoop.TheVariants as InLoop
-use Rattle.scope.specs.Open.{variable_named, NameAfforded, Added, Taken, DeclareMeets, IsFound, FindMeets, open_variable, variables_at, variables_of, loop_of, loop_number, scope_at}
+use Rattle.scope.specs.Open.{variable_named, NameAfforded, Added, Taken, DeclareMeets, IsFound, FindMeets, open_variable, variables_at, loop_of, loop_number, scope_at}
 use Rattle.scope.proofs.ScopeLaws.{declare-ok, declare-err, in_loop_lem}
 use Rattle.keys.specs.Keys.{all_keys}
 use Rattle.texts.specs.Texts.{has_text}

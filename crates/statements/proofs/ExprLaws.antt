@@ -38,7 +38,6 @@ use Rattle.ir.proofs.Operators.{binary_in_lem}
 use Rattle.scope.specs.Open.{scope_at}
 use Rattle.keys.specs.Keys.{all_keys}
 use Rattle.expressions.specs.declared.answers.ExprType.{ExprType}
-use Rattle.expressions.specs.declared.answers.ExprType.TheVariants as ExprType
 use Rattle.expressions.specs.Slots.{type_in}
 use Rattle.expressions.specs.Answers.{refusal, type_result, TypeMeets}
 use Rattle.expressions.proofs.SlotLaws.{scope-frame}

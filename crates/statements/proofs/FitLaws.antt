@@ -15,7 +15,7 @@ use Rattle.records.specs.declared.shape.Role.TheVariants.{Parameters}
 use Rattle.records.specs.declared.convert_error.ConvertError.{ConvertError}
 use Rattle.records.specs.Words.{detail_of, word_of, none, A, B, C}
 use Rattle.records.specs.Good.{Good}
-use Rattle.syntax.specs.Syntax.{Text, Ty, TInt, TFloat, TBool, TChar, TByte, TAddress, TArray, TCustom, TNull, float_type}
+use Rattle.syntax.specs.Syntax.{Text, Ty, TInt, TFloat, TBool, TChar, TByte, TAddress, TArray, TCustom, TNull}
 use Rattle.syntax.specs.Decode.{program, bit, type_at, text_of, wide_of}
 use Rattle.syntax.specs.Places.{IsExpr, TypeAt, ParamsAt, expr_at, params_at}
 use Rattle.syntax.proofs.Lists.{cell-is, next-list, params_end, parameter_item}
@@ -30,7 +30,6 @@ use Rattle.ir.specs.declared.structs.Counters.{Counters}
 use Rattle.ir.specs.declared.structs.VarId.{VarId}
 use Rattle.ir.specs.declared.structs.NewVariable.{NewVariable}
 use Rattle.ir.specs.declared.structs.Operand.{Operand}
-use Rattle.ir.specs.declared.structs.Operand.TheVariants as Operand
 use Rattle.ir.specs.declared.pool.PoolNumber.{PoolNumber}
 use Rattle.ir.specs.declared.floats.FloatBits.{FloatBits}
 use Rattle.ir.specs.Amounts.{Amount, amount}

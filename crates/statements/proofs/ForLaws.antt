@@ -41,16 +41,12 @@ use Rattle.ir.proofs.StepCases.{on_int_lem, no_int, stop-of}
 use Rattle.ir.proofs.StepLaws.{lift-stops, stop-first, stop_seq}
 use Rattle.scope.specs.declared.Scope.{Scope}
 use Rattle.scope.specs.declared.Declared.{Declared}
-use Rattle.scope.specs.declared.Declared.TheVariants as Declared
 use Rattle.scope.specs.declared.Known.{Known}
-use Rattle.scope.specs.declared.Known.TheVariants as Known
 use Rattle.scope.specs.Open.{scope_at, NameAfforded, DeclareMeets, FindMeets}
 use Rattle.scope.proofs.ScopeLaws.{Finds, find_some, find_unknown}
 use Rattle.keys.specs.Keys.{all_keys}
 use Rattle.expressions.specs.declared.answers.ExprType.{ExprType}
-use Rattle.expressions.specs.declared.answers.ExprType.TheVariants as ExprType
 use Rattle.expressions.specs.declared.answers.Outcome.{Outcome}
-use Rattle.expressions.specs.declared.answers.Outcome.TheVariants as Outcome
 use Rattle.texts.specs.Texts.{has_text}
 use Rattle.expressions.specs.Slots.{original_of, original_word, Asked, Ready, Scoped, type_in}
 use Rattle.expressions.proofs.OriginalLaws.{kind-asked}

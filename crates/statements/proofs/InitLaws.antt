@@ -4,7 +4,7 @@ use mathlib.Core.Path.{◌≡◌, refl, sym, ap, ap₂, ◌∙◌, subst}
 use mathlib.Core.Bool.{Bool, true, false, ◌||◌}
 use mathlib.Core.List.{List, [], ◌++◌}
 use mathlib.Core.Option.{Option, none, some}
-use Prim.Native.Nat.{ℕ, ◌+◌, ◌*◌, ◌≤◌, ◌<◌}
+use Prim.Native.Nat.{ℕ, ◌+◌, ◌<◌}
 use native.Mathlib.Omega.{arith}
 use lib.Dec.{eqb}
 use lib.ListN.{length}
@@ -15,7 +15,7 @@ use Rattle.laws.proofs.DifferentLaws.{has-append}
 use Rattle.records.specs.declared.convert_error.ConvertError.{ConvertError}
 use Rattle.records.specs.Words.{detail_of, word_of, records, A, B, C}
 use Rattle.records.specs.Good.{Good}
-use Rattle.records.proofs.GoodLaws.{inside, init_detail, init_c}
+use Rattle.records.proofs.GoodLaws.{init_detail, init_c}
 use Rattle.syntax.specs.Syntax.{Text, Expr, Program, null_type, address_of_null}
 use Rattle.syntax.specs.Count.{under, expr_records, statement_records}
 use Rattle.syntax.specs.Decode.{program, bit, text_of}
@@ -45,16 +45,12 @@ use Rattle.texts.specs.Texts.{has_text}
 use Rattle.expressions.specs.Slots.{original_of, original_word, Asked, Ready}
 use Rattle.expressions.proofs.OriginalLaws.{kind-asked}
 use Rattle.scope.specs.declared.Known.{Known}
-use Rattle.scope.specs.declared.Known.TheVariants as Known
 use Rattle.scope.specs.declared.Declared.{Declared}
-use Rattle.scope.specs.declared.Declared.TheVariants as Declared
 use Rattle.scope.specs.Open.{NameAfforded, scope_at, FindMeets, DeclareMeets}
 use Rattle.scope.proofs.ScopeLaws.{find_some, find_unknown}
 use Rattle.keys.specs.Keys.{all_keys}
 use Rattle.expressions.specs.declared.answers.ExprType.{ExprType}
-use Rattle.expressions.specs.declared.answers.ExprType.TheVariants as ExprType
 use Rattle.expressions.specs.declared.answers.Outcome.{Outcome}
-use Rattle.expressions.specs.declared.answers.Outcome.TheVariants as Outcome
 use Rattle.expressions.specs.Answers.{outcome_of, IsTyped, TypeMeets}
 use Rattle.expressions.proofs.OperandLaws.{first-type, type_of_lem}
 use Rattle.expressions.proofs.TypingLaws.{is-typed}

@@ -29,12 +29,10 @@ use Rattle.conversion.specs.Statements.{name_operand, size_operand, convert_expr
 use Rattle.texts.specs.Texts.{has_text, original, text_number, original_at}
 use Rattle.texts.proofs.TextLaws.{own-number, numbers_apart}
 use Rattle.types.specs.declared.size.Bytes.{Bytes}
-use Rattle.types.specs.declared.size.Bytes.TheVariants as Bytes
 use Rattle.types.specs.Sizes.{exact_size, bytes_for, exact_bytes, size_at}
 use Rattle.ir.specs.declared.structs.Counters.{Counters}
 use Rattle.ir.specs.declared.structs.VarId.{VarId}
 use Rattle.ir.specs.declared.structs.Operand.{Operand}
-use Rattle.ir.specs.declared.structs.Operand.TheVariants as Operand
 use Rattle.ir.specs.declared.floats.FloatBits.{FloatBits}
 use Rattle.ir.specs.declared.pool.PoolNumber.{PoolNumber}
 use Rattle.ir.specs.Arena.{NumberedTexts, TellsApart, Room}
@@ -45,7 +43,6 @@ use Rattle.ir.specs.Steps.{NumbersString, NumbersFloat}
 use Rattle.ir.proofs.StepCases.{next_of, stop-of}
 use Rattle.scope.specs.declared.Scope.{Scope}
 use Rattle.scope.specs.declared.Known.{Known}
-use Rattle.scope.specs.declared.Known.TheVariants as Known
 use Rattle.scope.specs.Open.{scope_at, FindMeets}
 use Rattle.scope.proofs.ScopeLaws.{find_some, find_unknown}
 use Rattle.expressions.specs.Answers.{IsTyped}

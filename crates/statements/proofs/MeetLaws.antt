@@ -1,20 +1,20 @@
 -- Steps in a row, as the code answers them: a step that goes on and then the rest, a step that stops, amounts that add up.
 -- By the laws of steps; the two answers are told apart by their constructor. Assumes nothing.
-use mathlib.Core.Path.{◌≡◌, refl, sym, ap, ◌∙◌, subst}
+use mathlib.Core.Path.{◌≡◌, refl, ◌∙◌, subst}
 use mathlib.Core.List.{List}
-use Prim.Native.Nat.{ℕ, ◌+◌, ◌≤◌}
+use Prim.Native.Nat.{ℕ, ◌≤◌}
 use native.Mathlib.Omega.{arith}
 use lib.ListN.{length}
 use Rattle.records.specs.declared.convert_error.ConvertError.{ConvertError}
-use Rattle.conversion.specs.ConvertError.{ConvertErrorKind, Result, ok, err}
-use Rattle.conversion.specs.Ir.{M, ◌>>=◌, ◌>>◌, pure, fail, lift}
+use Rattle.conversion.specs.ConvertError.{Result, ok, err}
+use Rattle.conversion.specs.Ir.{M, ◌>>=◌, ◌>>◌, pure, lift}
 use Rattle.conversion.proofs.MonadLaws.{regroup, seq_is, pure-first}
 use Rattle.ir.specs.declared.structs.Counters.{Counters}
 use Rattle.ir.specs.Arena.{NumberedTexts, Room}
 use Rattle.ir.specs.Amounts.{Amount, amount, both, Spent}
-use Rattle.ir.specs.Steps.{Next, NextIn, StopsIn}
+use Rattle.ir.specs.Steps.{StopsIn}
 use Rattle.ir.proofs.AmountLaws.{nothing_spent, both-spent}
-use Rattle.ir.proofs.StepLaws.{next_in, then_in, then_next, seq_next, pure-next, lift-next, lift-stops, fail-stops, stop-first, then_stop}
+use Rattle.ir.proofs.StepLaws.{next_in, then_in, then_next, seq_next, pure-next, lift-next, lift-stops, stop-first, then_stop}
 use Rattle.statements.specs.Meets.{StepAnswer, gave, refused, Adds, AddsIn, Meets}
 
 -- ---- amounts

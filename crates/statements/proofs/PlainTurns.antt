@@ -12,7 +12,6 @@ use Rattle.conversion.specs.Visits.{typed_value, typed_own}
 use Rattle.ir.specs.declared.structs.Counters.{Counters}
 use Rattle.scope.specs.declared.Scope.{Scope}
 use Rattle.expressions.specs.declared.answers.ExprType.{ExprType}
-use Rattle.expressions.specs.declared.answers.ExprType.TheVariants as ExprType
 use Rattle.expressions.specs.Slots.{Typing}
 use Rattle.expressions.specs.Answers.{TypeMeets}
 use Rattle.statements.specs.Lent.{Converter, Stated}

@@ -10,10 +10,8 @@ use Rattle.syntax.specs.Syntax.{Args, no_args}
 use Rattle.syntax.specs.Places.{ArgsAt, ParamsAt, args_at, params_at}
 use Rattle.conversion.specs.Statements.{parameter_type, value_position, expected_type}
 use Rattle.expressions.specs.declared.arguments.Argument.{Argument}
-use Rattle.expressions.specs.declared.arguments.Argument.TheVariants as Argument
 use Rattle.expressions.specs.Answers.{ArgumentIs, an_expr, a_type}
 use Rattle.syntax.proofs.Lists.{args_end, next-list}
-use Rattle.statements.specs.declared.answers.AtValue.{AtValue}
 use Rattle.statements.specs.Answers.{FirstValue}
 
 -- the walk from argument a and parameter p on stands at w and q

@@ -17,7 +17,6 @@ use Rattle.conversion.specs.Ir.{OVar, OInt, OFloat, OBool, ODataAddress, ONull}
 use Rattle.conversion.specs.Written.{bytes_of, word, wide, tag, operand_value, bool_number, encode_all}
 use Rattle.ir.specs.declared.structs.VarId.{VarId}
 use Rattle.ir.specs.declared.structs.Operand.{Operand}
-use Rattle.ir.specs.declared.structs.Operand.TheVariants as Operand
 use Rattle.ir.specs.Instructions.{operand_of}
 use Rattle.ir.specs.Arena.{Table}
 use Rattle.ir.proofs.Entries.{table-grown, table-word}

@@ -3,11 +3,10 @@
 use mathlib.Core.Path.{◌≡◌, refl, sym, ap, ◌∙◌, subst}
 use mathlib.Core.Logic.{◌⊎◌, inl, inr}
 use mathlib.Core.Bool.{Bool, true, false}
-use mathlib.Core.List.{List, []}
+use mathlib.Core.List.{List}
 use mathlib.Core.Option.{Option, none, some}
 use Prim.Native.Nat.{ℕ, zero, suc, ◌+◌, ◌*◌, ◌/◌, ◌≤◌, ◌<◌}
 use native.Mathlib.Omega.{arith}
-use native.Mathlib.Numerals.{add-one}
 use lib.Dec.{eqb}
 use lib.ListN.{length, get_or}
 use Rattle.laws.specs.Fix.{pick}
@@ -16,7 +15,7 @@ use Rattle.laws.proofs.Splices.{length-splice}
 use Rattle.records.specs.Words as Words
 use Rattle.records.specs.Words.{byte_at, word_at, records}
 use Rattle.syntax.specs.Places.{IsKind, TypeAt}
-use Rattle.conversion.specs.Ir.{Operand, M}
+use Rattle.conversion.specs.Ir.{M}
 use Rattle.ir.specs.declared.structs.Counters.{Counters}
 use Rattle.ir.specs.Steps.{NextIn}
 use Rattle.scope.specs.declared.Scope.{Scope}
@@ -30,7 +29,7 @@ use Rattle.expressions.specs.Slots.{original_of, original_word, Frame, Scoped, R
 use Rattle.expressions.proofs.OriginalLaws.{word-stays, original-stays}
 use Rattle.expressions.proofs.SlotLaws.{original-frame, ready-frame}
 use Rattle.statements.specs.Lent.{Converter}
-use Rattle.statements.specs.Stack.{stack_entry_at, operand_from, operand_at, stack_at}
+use Rattle.statements.specs.Stack.{stack_entry_at, operand_at, stack_at}
 use Rattle.statements.specs.Converting.{LoopIn, Converting, with_counters, Stays, StaysFor, NamesStay}
 use Rattle.statements.specs.Meets.{texts_of}
 

@@ -18,7 +18,6 @@ use Rattle.conversion.specs.Statements.{zero_value, fit_operand, check_bound, pa
 use Rattle.ir.specs.declared.structs.Counters.{Counters}
 use Rattle.ir.specs.declared.structs.VarId.{VarId}
 use Rattle.ir.specs.declared.structs.Operand.{Operand}
-use Rattle.ir.specs.declared.structs.Operand.TheVariants as Operand
 use Rattle.ir.specs.Instructions.{operand_of, var_of}
 use Rattle.ir.specs.Amounts.{Amount, amount, both}
 use Rattle.ir.specs.Arena.{Room}

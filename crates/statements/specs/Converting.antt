@@ -10,7 +10,6 @@ use Rattle.syntax.specs.Places.{expr_at, args_at, statement_at, block_at, TypeAt
 use Rattle.conversion.specs.Ir as Ir
 use Rattle.conversion.specs.Ir.{OVar, OInt, OFloat, OBool, ODataAddress, ONull}
 use Rattle.ir.specs.declared.structs.Counters.{Counters}
-use Rattle.ir.specs.declared.structs.Operand.{Operand}
 use Rattle.ir.specs.Arena.{Room}
 use Rattle.ir.specs.Amounts.{Amount, amount, Affords}
 use Rattle.scope.specs.Open.{open_name_at, loop_number}

@@ -13,9 +13,7 @@ use Rattle.ir.specs.declared.structs.VarId.{VarId}
 use Rattle.scope.specs.declared.Scope.{Scope}
 use Rattle.scope.specs.Open.{scope_at}
 use Rattle.expressions.specs.declared.answers.ExprType.{ExprType}
-use Rattle.expressions.specs.declared.answers.ExprType.TheVariants as ExprType
 use Rattle.expressions.specs.declared.answers.Outcome.{Outcome}
-use Rattle.expressions.specs.declared.answers.Outcome.TheVariants as Outcome
 use Rattle.expressions.specs.Slots.{turn_at, visits_at, Remembers, Typed}
 use Rattle.statements.specs.Lent.{Converter, Converted, ConvertedArgs, Stated, Finished, ForVariable}
 

@@ -1,11 +1,11 @@
 -- In a tree whose records all keep the rules, each record is complete and referred to at most once: what the count of records asks for.
 -- By kind: a record's row says which words refer to an expression, a variable, a name, and which words refer at all. Assumes nothing.
-use mathlib.Core.Path.{◌≡◌, refl, sym, ap, ◌∙◌}
-use mathlib.Core.Bool.{Bool, true, false, not, ◌&&◌, ◌||◌, false≢true}
+use mathlib.Core.Path.{◌≡◌, refl, sym, ◌∙◌}
+use mathlib.Core.Bool.{Bool, true, false, ◌&&◌, ◌||◌, false≢true}
 use mathlib.Core.List.{List, [], ◌∷◌}
 use Prim.Native.Nat.{ℕ, zero, suc, ◌+◌, ◌-◌, ◌≤◌, ◌<◌}
 use native.Mathlib.Omega.{arith}
-use lib.Dec.{eqb, leb, ltb, T}
+use lib.Dec.{eqb, leb, ltb}
 use lib.ListN.{length, get_or}
 use borrow.Author.Tests.{ltb-true, leb-true, eqb-true, ne_eqb}
 use Rattle.laws.specs.Fix.{pick}
@@ -13,9 +13,9 @@ use Rattle.laws.specs.Below.{sum_below}
 use Rattle.laws.proofs.Tests.{and_left, and_right}
 use Rattle.records.specs.Words.{kind_of, detail_of, pad_of, word_of, records, A, B, C, D, E}
 use Rattle.records.specs.declared.shape.Row.{Row}
-use Rattle.records.specs.Shapes.{shape_of, row_of, row_at, refers}
+use Rattle.records.specs.Shapes.{shape_of, row_of, row_at}
 use Rattle.records.specs.Rules.{kind_below, is_expr, word_ok, words_ok, form_ok, refers_to, refers_from, references, otherwise_marked, body_marked, is_first_type, types_first, type_is_new, referred_once, record_ok}
-use Rattle.syntax.specs.Decode.{Node, child, node}
+use Rattle.syntax.specs.Decode.{child, node}
 use Rattle.laws.proofs.Sums.{sum-le, hit}
 use Rattle.syntax.proofs.Held.{AnExpr, AVariable, Leads, nowhere, leads_by_kind, Led, Complete, Once, mentions_by, mentions, expr-below, variable-below}
 

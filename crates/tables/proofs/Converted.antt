@@ -8,7 +8,6 @@ use mathlib.Core.Option.{Option, none as nothing, some}
 use Rattle.laws.specs.All.{All}
 use Rattle.laws.proofs.Prefixes.{Prefix, prefix_refl}
 use Rattle.syntax.specs.Syntax.{Text, Block, Param, Function, Program}
-use Rattle.conversion.specs.ConvertError as C
 use Rattle.conversion.specs.ConvertError.{Result, ok, err, AlreadyDeclared, MissingReturn}
 use Rattle.conversion.specs.Ir.{Out, made, failed, IrFunction, IrProgram}
 use Rattle.conversion.specs.Types.{is_some}

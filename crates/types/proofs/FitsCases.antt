@@ -1,22 +1,21 @@
 -- `fits` and `range_error`, as the code meets them: by the forms of the two types, and by what a constant folds to.
 -- Each takes the types apart by their forms. Assumes nothing.
 use mathlib.Core.Path.{◌≡◌, refl, sym, ap, ◌∙◌}
-use mathlib.Core.Bool.{Bool, true, false, not, ◌&&◌, ◌||◌}
+use mathlib.Core.Bool.{Bool, true, false, not, ◌||◌}
 use mathlib.Core.List.{List}
-use mathlib.Core.Option.{Option, none, some}
+use mathlib.Core.Option.{Option}
 use Prim.Native.Nat.{ℕ, ◌%◌, ◌≤◌}
 use native.Mathlib.Omega.{arith}
 use lib.Dec.{eqb}
 use lib.IntN.{ℤ}
-use lib.Ieee.{Float, nan}
+use lib.Ieee.{Float}
 use borrow.Author.Tests.{eq-eqb, ne_eqb}
-use Rattle.records.specs.Words.{detail_of, word_of, A}
+use Rattle.records.specs.Words.{detail_of, word_of}
 use Rattle.int128.specs.declared.Int128.{Int128}
 use Rattle.int128.specs.declared.Checked.{Checked}
 use Rattle.int128.specs.declared.Checked.TheVariants.{Value, Nothing}
 use Rattle.int128.specs.Value.{value_of, checked_of}
 use Rattle.int128.specs.Ops.{int_fits}
-use Rattle.syntax.specs.Syntax.{Ty}
 use Rattle.syntax.specs.Decode.{bit, expr_of, node, type_at}
 use Rattle.conversion.specs.Types.{on_int, on_float, on_address, some_and, is_some, int_value, float_value, float_fits, is_null_literal, fits_into, is_literal, fits, range_error}
 use Rattle.types.specs.declared.float_value.FloatValue.{FloatValue}

@@ -1,7 +1,7 @@
 -- Floats: x - x is a number exactly where x is finite; between -l and l is |x| at most l; and `float_fits` from these.
 -- By the cases of IEEE 754's sum: no rounding gives a NaN. Assumes nothing.
-use mathlib.Core.Path.{◌≡◌, refl, sym, ap, ap₂, ◌∙◌, subst}
-use mathlib.Core.Bool.{Bool, true, false, not, ◌&&◌, ◌||◌, cond, beq}
+use mathlib.Core.Path.{◌≡◌, refl, sym, ap, ◌∙◌, subst}
+use mathlib.Core.Bool.{Bool, true, false, not, ◌&&◌, cond, beq}
 use mathlib.Core.Option.{some}
 use Prim.Native.Nat.{ℕ, zero, suc, ◌+◌, ◌*◌, ◌-◌, ◌/◌, ◌%◌, ◌^◌, ◌<◌, compare}
 use native.Mathlib.Nat.{mul-pos, lt_of_lt_of_le, le-add_left, le-add_right}
@@ -15,7 +15,6 @@ use lib.Ieee.Fits.{up_pos, down_pos}
 use borrow.Author.Tests.{lt-ltb, eq-eqb, ne_eqb, eqb-true, eqb-false}
 use denote.Floats.{passes}
 use Rattle.conversion.specs.Types.{float_fits}
-use Rattle.types.specs.declared.float_value.FloatValue.{FloatValue}
 use Rattle.types.specs.declared.float_value.FloatValue.TheVariants as F
 use Rattle.types.specs.Floats.{float_of, finite, small}
 

@@ -2,7 +2,6 @@
 -- A number names its operator; where it names none of those that fold, each operator is tried. Assumes nothing.
 use mathlib.Core.Path.{◌≡◌, refl, sym, ap, ◌∙◌, subst}
 use mathlib.Core.Bool.{Bool, true, false}
-use mathlib.Core.List.{List, [], ◌∷◌}
 use mathlib.Core.Option.{Option, none, some}
 use Prim.Native.Nat.{ℕ, zero, suc, ◌<◌, ◌≤◌}
 use native.Mathlib.Omega.{arith}
@@ -19,7 +18,7 @@ use Rattle.int128.specs.declared.Checked.{Checked}
 use Rattle.int128.specs.declared.Checked.TheVariants.{Value, Nothing}
 use Rattle.int128.specs.Value.{value_of, checked_of}
 use Rattle.int128.specs.Ops.{neg_of, not_of, add_of, sub_of, mul_of, div_of, rem_of, and_of, or_of, xor_of, shl_of, shr_of, by_count}
-use Rattle.syntax.specs.Syntax.{UnaryOp, Neg, BinaryOp, Or, unary_ops, binary_ops}
+use Rattle.syntax.specs.Syntax.{UnaryOp, Neg, Or, unary_ops, binary_ops}
 use Rattle.conversion.specs.Types.{fold_unary, same_int, kept_if, taken_back, shl_kept, fold_two, fold_binary, neg_float, float_two, float_binary}
 use Rattle.types.specs.declared.float_value.FloatValue.{FloatValue}
 use Rattle.types.specs.declared.float_value.FloatValue.TheVariants as F

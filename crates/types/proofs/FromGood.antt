@@ -1,6 +1,6 @@
 -- What a good tree gives the functions on types: an expression's record, a type's record.
 -- A type's detail is below its row's limit, so that it is a known one: one test over the details, computed. Assumes nothing.
-use mathlib.Core.Path.{◌≡◌, refl, sym, ◌∙◌, subst}
+use mathlib.Core.Path.{◌≡◌, refl}
 use mathlib.Core.Bool.{Bool, true, false, cond}
 use mathlib.Core.List.{List}
 use Prim.Native.Nat.{ℕ, ◌%◌, ◌<◌, ◌≤◌}

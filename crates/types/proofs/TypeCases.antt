@@ -1,17 +1,17 @@
 -- A type record by its form, as the code meets it: which type it stands for, its class of casts, and whether it is a number.
 -- Each picks the entry of `type_at`'s list that the form names. Assumes nothing.
-use mathlib.Core.Path.{◌≡◌, refl, sym, ap, ◌∙◌}
+use mathlib.Core.Path.{◌≡◌, refl, sym, ◌∙◌}
 use mathlib.Core.Bool.{Bool, true, false}
 use mathlib.Core.List.{List, [], ◌∷◌}
 use Prim.Native.Nat.{ℕ, zero, suc, ◌%◌, ◌<◌, ◌≤◌}
 use native.Mathlib.Omega.{arith}
 use lib.Dec.{eqb}
 use lib.ListN.{get_or}
-use borrow.Author.Tests.{eq-eqb, ne_eqb}
+use borrow.Author.Tests.{ne_eqb}
 use Rattle.records.specs.Words.{detail_of, word_of, A, B}
 use Rattle.syntax.specs.Syntax.{Ty, TInt, TFloat, TBool, TChar, TByte, TAddress, TArray, TCustom, TNull}
 use Rattle.syntax.specs.Decode.{bit, type_at, text_of, wide_of}
-use Rattle.conversion.specs.Types.{on_int, on_float, on_address, is_int, is_float, is_number, cast_class}
+use Rattle.conversion.specs.Types.{on_int, on_float, is_int, is_float, is_number, cast_class}
 
 module _ (tree text : List ℕ) (y : ℕ) where
   -- the types by form

@@ -1,11 +1,11 @@
 -- The value of a record's expression, as the code meets it: by the record's kind, from the values of the records that it refers to.
 -- One level of the syntax tree at a time; a kind that is no constant has no value. Assumes nothing.
-use mathlib.Core.Path.{◌≡◌, refl, sym, ap, ap₂, ◌∙◌}
+use mathlib.Core.Path.{◌≡◌, refl, sym, ap, ◌∙◌}
 use mathlib.Core.Bool.{Bool, true, false}
-use mathlib.Core.List.{List, [], ◌∷◌}
+use mathlib.Core.List.{List}
 use mathlib.Core.Logic.{⊎_elim}
 use mathlib.Core.Option.{Option, none, some}
-use Prim.Native.Nat.{ℕ, zero, suc, ◌+◌, ◌*◌, ◌<◌, ◌≤◌}
+use Prim.Native.Nat.{ℕ, ◌+◌, ◌*◌, ◌<◌, ◌≤◌}
 use native.Mathlib.Omega.{arith}
 use lib.Dec.{eqb, leb}
 use lib.IntN.{ℤ}
@@ -17,15 +17,14 @@ use mir.Val.{to_z}
 use borrow.Author.Tests.{leb-true, eqb-true, eqb-false}
 use Rattle.laws.specs.Fix.{pick}
 use Rattle.laws.proofs.Tests.{and_left, and_right}
-use Rattle.laws.proofs.FixLaws.{below_in, below_out}
 use Rattle.records.specs.Words.{kind_of, detail_of, word_of, A, B}
 use Rattle.records.specs.Rules.{is_expr}
 use Rattle.int128.specs.declared.Int128.{Int128}
 use Rattle.int128.specs.declared.Checked.{Checked}
 use Rattle.int128.specs.declared.Checked.TheVariants.{Value, Nothing}
 use Rattle.int128.specs.Value.{value_of, checked_of}
-use Rattle.syntax.specs.Syntax.{Expr, EInt, EFloat, EUnary, EBinary, Neg, Or, BinaryOp, unary_ops, binary_ops}
-use Rattle.syntax.specs.Decode.{Node, absent, expr, expr_of, bit, wide_of, child, expr_in, block_in, nothing_at, int_at, float_at, str_at, bool_at, name_at, null_at, size_of_at, unary_at, binary_at, call_at, list_at, value_at, type_argument_at, declare_at, init_at, return_at, call_statement_at, if_at, while_at, for_at, break_at, continue_at, variable_at, function_at, kinds, node}
+use Rattle.syntax.specs.Syntax.{Expr, EUnary, EBinary, Neg, Or, BinaryOp, unary_ops, binary_ops}
+use Rattle.syntax.specs.Decode.{Node, absent, expr, expr_of, bit, wide_of, child, expr_in, nothing_at, int_at, float_at, str_at, bool_at, name_at, null_at, size_of_at, unary_at, binary_at, call_at, list_at, value_at, type_argument_at, declare_at, init_at, return_at, call_statement_at, if_at, while_at, for_at, break_at, continue_at, variable_at, function_at, kinds, node}
 use Rattle.syntax.proofs.Unfold.{node-is}
 use Rattle.syntax.proofs.Cases.{child_in, child-out, int_case, float_case}
 use Rattle.conversion.specs.Types.{fold_unary, fold_binary, int_value, neg_float, float_binary, float_value, is_null_literal}

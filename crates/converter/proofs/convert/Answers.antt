@@ -1,7 +1,6 @@
 -- THE CALL keeps its promise: it judges, and converts what the judge accepts.
 -- A refusal is the judge's row; an accepted tree is good, its buffers suffice, and its conversion is the definition's. Assumes nothing.
 use mathlib.Core.Path.{sym, ap, ◌∙◌}
-use borrow.Author.Rules.{rules}
 use Rattle.judge.specs.Judge.{buffers, lengths_of}
 use Rattle.judge.specs.Keeps.{placed}
 use Rattle.converter.proofs.CallLaws.{rows_told, first-cleared, first-kept, first-accepted, judge_refuses, judged-good, judged_some, judged-lent, promise_kept}

@@ -1,13 +1,9 @@
 -- All functions are converted one after the other: those done stand in the arena, and what was asked equals what is left from the place at hand on.
 -- The laws of the loop: the start, one function more, a refusal, the end. Assumes nothing.
-use Prim.Native.Nat.{◌-◌}
-use mathlib.Core.Path.{◌≡◌, refl, ap, ◌∙◌}
+use mathlib.Core.Path.{refl, ap, ◌∙◌}
 use native.Mathlib.Omega.{arith}
-use lib.ListN.{length}
-use borrow.Author.Rules.{rules}
-use Rattle.ir.specs.Counted.{counted}
 use Rattle.statements.specs.Lent.{finished_with}
-use Rattle.converter.proofs.AllLaws.{SoFar, few-functions, all_start, one_afforded, all-next, all-refused, all_end}
+use Rattle.converter.proofs.AllLaws.{few-functions, all_start, one_afforded, all-next, all-refused, all_end}
 use Rattle.converter.proofs.convert_all.Goals as goal
 
 pub loop-j-init : goal.loop-j-init

@@ -1,13 +1,10 @@
 -- All functions are converted one after the other: those done stand in the arena, and what was asked equals what is left from the place at hand on.
 -- The laws of the loop: the start, one function more, a refusal, the end. Assumes nothing.
 use Prim.Native.Nat.{◌-◌}
-use mathlib.Core.Path.{◌≡◌, refl, ap, ◌∙◌}
-use native.Mathlib.Omega.{arith}
+use mathlib.Core.Path.{◌≡◌}
 use lib.ListN.{length}
-use borrow.Author.Rules.{rules}
 use Rattle.ir.specs.Counted.{counted}
-use Rattle.statements.specs.Lent.{finished_with}
-use Rattle.converter.proofs.AllLaws.{SoFar, few-functions, all_start, one_afforded, all-next, all-refused, all_end}
+use Rattle.converter.proofs.AllLaws.{SoFar}
 use Rattle.converter.proofs.convert_all.Given as goal
 
 abbrev pub invariant-loop-j : goal.invariant-loop-j

@@ -1,7 +1,6 @@
 -- Of a good tree, answer and buffers are what the definition says: its tables, each alone, and its visits, or its error and zeros; scratch is zero.
 -- What the conversion leaves in arena and scratch, and what is cut out of the arena. Assumes nothing.
 use mathlib.Core.Path.{refl}
-use borrow.Author.Rules.{rules}
 use Rattle.ir.specs.Counted.{counted}
 use Rattle.converter.proofs.CallLaws.{cut_afforded, scratch-room, as_the_rust}
 use Rattle.converter.proofs.convert_good.Goals as goal

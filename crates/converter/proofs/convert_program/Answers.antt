@@ -2,7 +2,6 @@
 -- The laws of the three steps; a refusal of one is the definition's. Assumes nothing.
 use mathlib.Core.Path.{◌∙◌}
 use native.Mathlib.Omega.{arith}
-use borrow.Author.Rules.{rules}
 use Rattle.converter.proofs.AllLaws.{forgets_keyed, forgets_turns, keys-done, listed-room, tree_unkeyed, tree_mainless, tree_all, room-numbered, tree_numbered}
 use Rattle.converter.proofs.convert_program.Goals as goal
 

@@ -1,7 +1,6 @@
 -- What is left in the outputs: each table alone in its own, or zero everywhere.
 -- What `cut_tables` and `clear_outputs` leave, by the answer's case. Assumes nothing.
 use mathlib.Core.Path.{sym, ap, ◌∙◌}
-use borrow.Author.Rules.{rules}
 use Rattle.ir.proofs.LentLaws.{ten}
 use Rattle.statements.specs.Lent.{Finished, finished_with}
 use Rattle.converter.proofs.CallLaws.{finish-refused, finish-converted}

@@ -1,10 +1,8 @@
 -- Every byte becomes zero. The invariant: the bytes passed are zero, and the rest is as found. The measure is what is left.
 -- Assumes nothing.
-use mathlib.Core.Path.{◌≡◌, refl, ◌∙◌}
-use mathlib.Core.List.{◌++◌}
-use Prim.Native.Nat.{◌≤◌, ◌-◌}
+use mathlib.Core.Path.{refl, ◌∙◌}
 use native.Mathlib.Omega.{arith}
-use lib.ListN.{length, drop, replicate, length-set}
+use lib.ListN.{length-set}
 use borrow.Author.Fill.{fill_none, fill_more}
 use Rattle.judge.proofs.RowLaws.{filled}
 use Rattle.judge.proofs.clear.Goals as goal

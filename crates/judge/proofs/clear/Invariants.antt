@@ -1,12 +1,9 @@
 -- Every byte becomes zero. The invariant: the bytes passed are zero, and the rest is as found. The measure is what is left.
 -- Assumes nothing.
-use mathlib.Core.Path.{◌≡◌, refl, ◌∙◌}
+use mathlib.Core.Path.{◌≡◌}
 use mathlib.Core.List.{◌++◌}
 use Prim.Native.Nat.{◌≤◌, ◌-◌}
-use native.Mathlib.Omega.{arith}
-use lib.ListN.{length, drop, replicate, length-set}
-use borrow.Author.Fill.{fill_none, fill_more}
-use Rattle.judge.proofs.RowLaws.{filled}
+use lib.ListN.{length, drop, replicate}
 use Rattle.judge.proofs.clear.Given as goal
 
 abbrev pub invariant-loop-i : goal.invariant-loop-i

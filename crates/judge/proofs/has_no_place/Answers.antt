@@ -2,7 +2,6 @@
 -- By the case that the match met. Assumes nothing.
 use mathlib.Core.Path.{sym, ap}
 use Rattle.judge.specs.Keeps.{unplaced}
-use borrow.Author.Rules.{rules}
 use Rattle.judge.proofs.has_no_place.Goals as goal
 
 pub returns-in-Accepted : goal.returns-in-Accepted

@@ -1,7 +1,6 @@
 -- The entry: the core's answer, and what each lent buffer holds afterwards.
 -- The six outputs are cleared where the answer is a refusal with a place, and else are as found. Assumes nothing.
 use Rattle.judge.proofs.RowLaws.{answer_in_lem, outputs-cleared, outputs-kept, long-judged, long_after}
-use borrow.Author.Rules.{rules}
 use Rattle.judge.proofs.judge.Goals as goal
 
 pub returns-then-has_place : goal.returns-then-has_place

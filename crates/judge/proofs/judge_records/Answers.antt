@@ -1,6 +1,5 @@
 -- Rows 'records' and 'nesting'.
 -- Each return is a case of the rows, by the two lowest numbers. Assumes nothing.
-use borrow.Author.Rules.{rules}
 use mathlib.Core.Path.{sym, ap, ◌∙◌}
 use Rattle.judge.specs.Judge.{refused_by, judged_by}
 use Rattle.judge.proofs.RowLaws.{row-fault, row-deep, row-none}

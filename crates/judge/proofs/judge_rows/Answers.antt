@@ -1,8 +1,6 @@
 -- The rows in order, and what scratch holds afterwards.
 -- Rows one and two return before anything is written. Assumes nothing.
-use borrow.Author.Rules.{rules}
 use mathlib.Core.Path.{sym, ◌∙◌}
-use borrow.Author.Tests.{not-true, not-false}
 use Rattle.judge.proofs.RowLaws.{lengths-fit, enough, judged-length, judged_buffer, judged-records}
 use Rattle.judge.proofs.judge_rows.Goals as goal
 

@@ -1,7 +1,6 @@
 -- The rows' answer, and what scratch holds afterwards.
 -- Where the answer is a refusal without a place nothing was written; else scratch is cleared. Assumes nothing.
 use Rattle.judge.proofs.RowLaws.{core_kept, core_cleared}
-use borrow.Author.Rules.{rules}
 use Rattle.judge.proofs.judge_tree.Goals as goal
 
 pub returns-then-has_no_place : goal.returns-then-has_no_place

@@ -1,6 +1,5 @@
 -- Row 'lengths'.
 -- The code's tests are those of the definition, in its order. Assumes nothing.
-use native.Mathlib.Omega.{arith}
 use mathlib.Core.Path.{refl}
 use Rattle.judge.specs.Judge.{lengths_ok}
 use Rattle.judge.proofs.lengths_ok.Goals as goal

@@ -1,7 +1,6 @@
 -- The words of an answer, by the case that the match met. Assumes nothing.
 use mathlib.Core.Path.{sym, ap, ◌∙◌}
 use Rattle.rudderplum.specs.Boundary.{judged_words}
-use borrow.Author.Rules.{rules}
 use Rattle.rudderplum.proofs.answer_words.Goals as goal
 
 pub returns-in-Accepted : goal.returns-in-Accepted

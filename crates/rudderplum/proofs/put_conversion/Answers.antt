@@ -1,6 +1,5 @@
 -- The eight words of a conversion's answer, by the case that the match met.
 -- By what `put_counts`, `put_refusal` and `words_of` ensure. Assumes nothing.
-use borrow.Author.Rules.{rules}
 use Rattle.rudderplum.proofs.Calls.{converted_put, refused_put}
 use Rattle.rudderplum.proofs.put_conversion.Goals as goal
 

@@ -1,6 +1,5 @@
 -- The eight words of a converted tree are the definition's bytes.
 -- By what `count_word` and `put_four` ensure. Assumes nothing.
-use borrow.Author.Rules.{rules}
 use Rattle.rudderplum.proofs.Calls.{counts_put}
 use Rattle.rudderplum.proofs.put_counts.Goals as goal
 

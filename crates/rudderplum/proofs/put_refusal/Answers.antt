@@ -1,6 +1,5 @@
 -- The eight words of a refusal are the definition's bytes.
 -- By what `put_answer` and `put_four` ensure. Assumes nothing.
-use borrow.Author.Rules.{rules}
 use Rattle.rudderplum.proofs.Calls.{refusal_put}
 use Rattle.rudderplum.proofs.put_refusal.Goals as goal
 

@@ -1,6 +1,5 @@
 -- Each way out of the call is a case of its definition: the test of the answer's buffer, or what `convert` and `put_conversion` ensure.
 -- Put together by `long-convert`. Assumes nothing.
-use borrow.Author.Rules.{rules}
 use Rattle.rudderplum.specs.Boundary.{asks_main}
 use Rattle.rudderplum.proofs.Calls.{short-returns_eight, long-returns_eight, short-convert, long-convert}
 use Rattle.rudderplum.proofs.rudderplum_convert.Goals as goal

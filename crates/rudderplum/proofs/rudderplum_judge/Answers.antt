@@ -1,7 +1,6 @@
 -- Each way out of the call is a case of its definition: the test of the answer's buffer, or what `judge`, `answer_words` and
 -- `put_answer` ensure, put together by `long-call`. Assumes nothing.
 use Rattle.rudderplum.proofs.Calls.{short-returns, long-returns, short-call, long-call}
-use borrow.Author.Rules.{rules}
 use Rattle.rudderplum.proofs.rudderplum_judge.Goals as goal
 
 pub returns-then-answer-lt-FOUR_WORDS : goal.returns-then-answer-lt-FOUR_WORDS

@@ -1,7 +1,6 @@
 -- Whether an open name is said by two words.
 -- By what `load` ensures of its words. Assumes nothing.
 use Rattle.scope.specs.Open.{words_are}
-use borrow.Author.Rules.{rules}
 use Rattle.scope.proofs.entry_is.Goals as goal
 
 pub returns : goal.returns

@@ -3,7 +3,6 @@
 use mathlib.Core.Path.{sym, ◌∙◌}
 use native.Mathlib.Omega.{arith}
 use Rattle.scope.proofs.Names.{said-far, said-other, said_this}
-use borrow.Author.Rules.{rules}
 use Rattle.scope.proofs.open_at.Goals as goal
 
 pub returns-then-count-j : goal.returns-then-count-j

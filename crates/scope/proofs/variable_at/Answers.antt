@@ -5,7 +5,6 @@ use Prim.Native.Nat.{ℕ, ◌/◌, ◌%◌}
 use lib.Dec.{eqb}
 use Rattle.conversion.specs.Ir.{VarId}
 use Rattle.scope.specs.Open.{VariableAt}
-use borrow.Author.Rules.{rules}
 use Rattle.scope.proofs.variable_at.Goals as goal
 
 -- a variable by its number and its type

@@ -1,8 +1,6 @@
 -- A record is passed over, or becomes an entry.
 -- By the laws of the entries, over what the calls ensure. Assumes nothing.
 use native.Mathlib.Omega.{arith}
-use borrow.Author.Tests.{not-true, not-false}
-use borrow.Author.Rules.{rules}
 use Rattle.sorting.proofs.MergeLaws.{only_none}
 use Rattle.texts.proofs.PassLaws.{own-told}
 use Rattle.texts.proofs.SortedLaws.{collected_over, collected_more}

@@ -1,12 +1,9 @@
 -- The records that have a text become entries. The invariant: those passed that have one are, and nothing else is written.
 -- By the contract of one record at each turn; the measure is what is left of the records. Assumes nothing.
 use Prim.Native.Nat.{◌≤◌, ◌-◌}
-use native.Mathlib.Omega.{arith}
 use Rattle.records.specs.Words.{records}
 use Rattle.sorting.specs.Sorted.{OnlyThere}
-use Rattle.sorting.proofs.MergeLaws.{only_none, only-on}
 use Rattle.texts.specs.Pass.{Collected}
-use Rattle.texts.proofs.SortedLaws.{collected_none, collected_all}
 use Rattle.texts.proofs.collect_texts.Given as goal
 
 abbrev pub invariant-loop-r : goal.invariant-loop-r

@@ -3,7 +3,6 @@
 use mathlib.Core.Path.{refl}
 use native.Mathlib.Omega.{arith}
 use Rattle.texts.proofs.PassLaws.{passed_over, taken, kept-all, kept-sampled, passed-sampled, read_past, put_long, own-told, roll_told, bucket_told}
-use borrow.Author.Tests.{not-true, not-false}
 use borrow.Author.Rules.{rules}
 use Rattle.texts.proofs.number_record.Goals as goal
 

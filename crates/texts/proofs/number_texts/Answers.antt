@@ -1,10 +1,6 @@
 -- The records are taken in rising order, up to a walk that is too long. The invariant: those passed are entered and have their numbers and digests, and the bytes
 -- that the contract names stay. By the laws of the pass at each turn, and by sorting from there on; the measure is what is left of the records. Assumes nothing.
-use Prim.Native.Nat.{◌≤◌, ◌-◌}
 use native.Mathlib.Omega.{arith}
-use Rattle.records.specs.Words.{records}
-use Rattle.texts.specs.Texts.{Kept}
-use Rattle.texts.specs.Pass.{Passed, Read}
 use Rattle.texts.proofs.PassLaws.{passed_none, kept_on, kept-all, kept-heads, read_none}
 use mathlib.Core.Path.{◌∙◌}
 use Rattle.texts.proofs.number_texts.Goals as goal

@@ -2,7 +2,6 @@
 -- By the laws of what is known of long texts, over what the sampling ensures. Assumes nothing.
 use native.Mathlib.Omega.{arith}
 use Rattle.texts.proofs.PassLaws.{read_past, only_none, only_samples}
-use borrow.Author.Rules.{rules}
 use Rattle.texts.proofs.read_long.Goals as goal
 
 pub returns-then-len-k : goal.returns-then-len-k

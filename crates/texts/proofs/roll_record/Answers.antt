@@ -3,7 +3,6 @@
 use native.Mathlib.Omega.{arith}
 use Rattle.texts.proofs.PassLaws.{kept-all, read_past, own-told, roll_told}
 use Rattle.texts.proofs.SortedLaws.{rolled-over, rolled-more}
-use borrow.Author.Tests.{not-true}
 use borrow.Author.Rules.{rules}
 use Rattle.texts.proofs.roll_record.Goals as goal
 

@@ -1,11 +1,9 @@
 -- The digests of the records from one on. The invariant: those passed have theirs, and the bytes that the contract names stay.
 -- By the contract of one record at each turn; the measure is what is left of the records. Assumes nothing.
 use Prim.Native.Nat.{◌≤◌, ◌-◌}
-use native.Mathlib.Omega.{arith}
 use Rattle.records.specs.Words.{records}
 use Rattle.texts.specs.Texts.{Kept}
 use Rattle.texts.specs.Pass.{Rolled, Read}
-use Rattle.texts.proofs.PassLaws.{kept_on, kept-all}
 use Rattle.texts.proofs.roll_texts.Given as goal
 
 abbrev pub invariant-loop-r : goal.invariant-loop-r

@@ -1,7 +1,6 @@
 -- The text is sampled between the chains and the numbers.
 -- By what the stride and the sampling ensure: as many bytes as lie there are room enough. Assumes nothing.
 use native.Mathlib.Omega.{arith}
-use borrow.Author.Rules.{rules}
 use Rattle.texts.proofs.sample_text.Goals as goal
 
 pub stride_within-stride-requires : goal.stride_within-stride-requires

@@ -3,7 +3,6 @@
 use native.Mathlib.Omega.{arith}
 use Rattle.syntax.proofs.Lists.{cell_below}
 use Rattle.expressions.proofs.ArgumentLaws.{of-expr, first_slot, first-type}
-use borrow.Author.Rules.{rules}
 use Rattle.expressions.proofs.arguments.argument_type.Goals as goal
 
 pub slot-requires : goal.slot-requires

@@ -1,14 +1,7 @@
 -- What is counted and what is left make the whole, cell by cell.
 -- The laws of cells, and a number that falls with each. Assumes nothing.
-use mathlib.Core.Path.{◌≡◌}
-use mathlib.Core.List.{List}
-use Prim.Native.Nat.{ℕ, ◌+◌, ◌≤◌}
 use native.Mathlib.Omega.{arith}
-use lib.ListN.{length}
-use Rattle.records.specs.Words.{records}
-use Rattle.syntax.specs.Places.{ArgsAt}
-use Rattle.expressions.specs.Calls.{typed_at}
-use Rattle.syntax.proofs.Lists.{left, left-most, cell_below, next-list, next_falls}
+use Rattle.syntax.proofs.Lists.{left-most, cell_below, next-list, next_falls}
 use Rattle.expressions.proofs.ArgumentLaws.{count-more, count_end}
 use Rattle.expressions.proofs.arguments.count_arguments.Goals as goal
 

@@ -3,13 +3,11 @@
 use mathlib.Core.Path.{◌≡◌}
 use mathlib.Core.List.{List}
 use Prim.Native.Nat.{ℕ, ◌+◌, ◌≤◌}
-use native.Mathlib.Omega.{arith}
 use lib.ListN.{length}
 use Rattle.records.specs.Words.{records}
 use Rattle.syntax.specs.Places.{ArgsAt}
 use Rattle.expressions.specs.Calls.{typed_at}
-use Rattle.syntax.proofs.Lists.{left, left-most, cell_below, next-list, next_falls}
-use Rattle.expressions.proofs.ArgumentLaws.{count-more, count_end}
+use Rattle.syntax.proofs.Lists.{left}
 use Rattle.expressions.proofs.arguments.count_arguments.Given as goal
 
 abbrev pub invariant-loop-cell : goal.invariant-loop-cell

@@ -2,12 +2,10 @@
 -- The laws of cells, and a number that falls with each. Assumes nothing.
 use mathlib.Core.Path.{◌≡◌}
 use Prim.Native.Nat.{◌+◌, ◌≤◌}
-use native.Mathlib.Omega.{arith}
 use lib.ListN.{length}
 use Rattle.records.specs.Words.{records}
 use Rattle.syntax.specs.Places.{ParamsAt, params_at}
-use Rattle.syntax.proofs.Lists.{left, left-most, cell_below, next-list, next_falls}
-use Rattle.expressions.proofs.ArgumentLaws.{parameters_more, parameters_done}
+use Rattle.syntax.proofs.Lists.{left}
 use Rattle.expressions.proofs.arguments.count_parameters.Given as goal
 
 abbrev pub invariant-loop-cell : goal.invariant-loop-cell

@@ -1,7 +1,6 @@
 -- The word at an expression's slot, behind the listed functions.
 -- By the definition of the slot. Assumes nothing.
 use Rattle.expressions.specs.Slots.{slot_at}
-use borrow.Author.Rules.{rules}
 use Rattle.expressions.proofs.arguments.slot.Goals as goal
 
 pub returns : goal.returns

@@ -1,14 +1,9 @@
 -- The type of the first expression among what was asked is that of the first among what is left, cell by cell.
 -- The laws of the typed arguments, and a number that falls with each cell. Assumes nothing.
-use mathlib.Core.Path.{◌≡◌, refl}
+use mathlib.Core.Path.{refl}
 use native.Mathlib.Omega.{arith}
-use borrow.Author.Rules.{rules}
-use Rattle.conversion.specs.Expressions.{source_type}
-use Rattle.syntax.specs.Places.{ArgsAt, args_at}
-use Rattle.expressions.specs.Slots.{ArgsTyped}
-use Rattle.expressions.specs.Calls.{typed_at}
 use Rattle.expressions.specs.Answers.{a_type, no_type}
-use Rattle.syntax.proofs.Lists.{left, cell_below, next-list, next_falls}
+use Rattle.syntax.proofs.Lists.{cell_below, next-list, next_falls}
 use Rattle.expressions.proofs.ArgumentLaws.{of-expr, slot-type, next-typed, source_hit, source_more, source_end}
 use Rattle.expressions.proofs.arguments.source_type.Goals as goal
 

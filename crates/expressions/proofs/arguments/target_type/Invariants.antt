@@ -1,15 +1,12 @@
 -- The first type among what was asked is the first among what is left, cell by cell.
 -- The laws of the typed arguments, and a number that falls with each cell. Assumes nothing.
-use mathlib.Core.Path.{◌≡◌, refl}
+use mathlib.Core.Path.{◌≡◌}
 use mathlib.Core.List.{List}
 use Prim.Native.Nat.{ℕ}
-use borrow.Author.Rules.{rules}
 use Rattle.conversion.specs.Expressions.{target_type}
 use Rattle.syntax.specs.Places.{ArgsAt}
 use Rattle.expressions.specs.Calls.{typed_at}
-use Rattle.expressions.specs.Answers.{a_type, no_type}
-use Rattle.syntax.proofs.Lists.{left, cell_below, next-list, next_falls}
-use Rattle.expressions.proofs.ArgumentLaws.{of-type, target_hit, target_more, target_end}
+use Rattle.syntax.proofs.Lists.{left}
 use Rattle.expressions.proofs.arguments.target_type.Given as goal
 
 abbrev pub invariant-loop-cell : goal.invariant-loop-cell

@@ -1,7 +1,6 @@
 -- Words D and E of a type's record say its key text.
 -- The rule of a type's row. Assumes nothing.
 use Rattle.expressions.proofs.ArgumentLaws.{key_part}
-use borrow.Author.Rules.{rules}
 use Rattle.expressions.proofs.arguments.type_key.Goals as goal
 
 pub returns : goal.returns

@@ -1,7 +1,6 @@
 -- The verb's number stands in scratch, the verb and the first cell are the record's words; the arguments are counted from there.
 -- By what each call ensures. Assumes nothing.
 use Rattle.expressions.proofs.CallLaws.{arguments_at, counted-at, verb-inside, verb-number}
-use borrow.Author.Rules.{rules}
 use Rattle.expressions.proofs.calls.call_of.Goals as goal
 
 pub original-number-requires : goal.original-number-requires

@@ -2,7 +2,6 @@
 -- By the cases of the answer. Assumes nothing.
 use mathlib.Core.Path.{sym, ap}
 use Rattle.expressions.specs.Answers.{callee_record}
-use borrow.Author.Rules.{rules}
 use Rattle.expressions.proofs.calls.callee_record.Goals as goal
 
 pub returns-in-Function : goal.returns-in-Function

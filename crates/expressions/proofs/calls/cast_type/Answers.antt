@@ -5,7 +5,6 @@ use mathlib.Core.Path.{ap}
 use Rattle.expressions.specs.Answers.{IsCast}
 use Rattle.expressions.proofs.OperandLaws.{found_type_lem}
 use Rattle.expressions.proofs.CallLaws.{type-inside, cast-not, cast_nowhere, cast-free, cast_fine, cast_wrong}
-use borrow.Author.Rules.{rules}
 use Rattle.expressions.proofs.calls.cast_type.Goals as goal
 
 pub returns-then-not-is_cast_verb : goal.returns-then-not-is_cast_verb

@@ -1,10 +1,6 @@
 -- The chain of the verb's number is walked. The invariant: those of all functions are those before the place at hand and behind them what was found so far.
 -- By the laws of a walk along a chain of names; the measure is the place. Assumes nothing.
-use mathlib.Core.Logic.{⊎_elim}
-use native.Mathlib.Omega.{arith}
-use borrow.Author.Rules.{rules}
-use Rattle.expressions.proofs.CallLaws.{NameWalk, name_start, name_end, name-function, name-less, second-one, first_one, passed-one}
-use Rattle.expressions.proofs.ExactLaws.{verb-below}
+use Rattle.expressions.proofs.CallLaws.{NameWalk}
 use Rattle.expressions.proofs.calls.find_functions_by_literals.Given as goal
 
 abbrev pub invariant-loop-at : goal.invariant-loop-at

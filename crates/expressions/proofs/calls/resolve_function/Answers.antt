@@ -1,7 +1,6 @@
 -- The function of the exact key, or the only one that literals fit.
 -- Each answer is a case of the definition. Assumes nothing.
 use Rattle.expressions.proofs.CallLaws.{exact_one, choice_one, choice_nobody, choice_several}
-use borrow.Author.Rules.{rules}
 use Rattle.expressions.proofs.calls.resolve_function.Goals as goal
 
 pub returns-in-At : goal.returns-in-At

@@ -2,7 +2,6 @@
 -- Each answer is a case of the definition. Assumes nothing.
 use native.Mathlib.Omega.{arith}
 use Rattle.expressions.proofs.CallLaws.{is_called, typed-refused, typed-cast, typed-function}
-use borrow.Author.Rules.{rules}
 use Rattle.expressions.proofs.calls.resolve_typed.Goals as goal
 
 pub call_of-call-requires : goal.call_of-call-requires

@@ -2,8 +2,7 @@
 -- By the laws of a walk along a chain of keys; the measure is the place. Assumes nothing.
 use mathlib.Core.Path.{◌∙◌}
 use native.Mathlib.Omega.{arith}
-use Rattle.keys.proofs.FoundLaws.{KeyWalk, key_start, key_end, key_function, hit_is, key_skip, key_next, key_less, key_here}
-use Rattle.expressions.specs.Calls.{name_of}
+use Rattle.keys.proofs.FoundLaws.{key_start, key_end, key_function, hit_is, key_skip, key_next, key_less, key_here}
 use Rattle.expressions.proofs.ExactLaws.{verb-below, key_told, key_longer, name-found, name_nowhere}
 use Rattle.expressions.proofs.exact.by_full_name.Goals.{then-kept_digest-digest+then-key-length+else-is_name, then-kept_digest-digest+else-key-length, else-kept_digest-digest}
 use Rattle.expressions.proofs.exact.by_full_name.Goals as goal

@@ -1,11 +1,7 @@
 -- The function whose key is the whole name, where it is mangled: the chain of its digest is walked. The invariant: no function met so far has the name as its key.
 -- By the laws of a walk along a chain of keys; the measure is the place. Assumes nothing.
-use mathlib.Core.Path.{◌∙◌}
-use mathlib.Core.Logic.{⊎_elim}
-use native.Mathlib.Omega.{arith}
-use Rattle.keys.proofs.FoundLaws.{KeyWalk, key_start, key_end, key_function, hit_is, key_skip, key_next, key_less, key_here}
+use Rattle.keys.proofs.FoundLaws.{KeyWalk}
 use Rattle.expressions.specs.Calls.{name_of}
-use Rattle.expressions.proofs.ExactLaws.{verb-below, key_told, key_longer, name-found, name_nowhere}
 use Rattle.expressions.proofs.exact.by_full_name.Given as goal
 
 abbrev pub invariant-loop-at : goal.invariant-loop-at

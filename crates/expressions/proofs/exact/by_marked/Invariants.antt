@@ -1,12 +1,9 @@
 -- The function whose key is a prefix with `$...`, where it is mangled: the chain of its digest is walked. The invariant: no function met so far has it as its key.
 -- By the laws of a walk along a chain of keys; the measure is the place. Assumes nothing.
-use mathlib.Core.Logic.{⊎_elim}
 use mathlib.Core.List.{◌++◌}
-use native.Mathlib.Omega.{arith}
 use Rattle.conversion.specs.Expressions.{variadic_mark}
-use Rattle.keys.proofs.FoundLaws.{KeyWalk, key_start, key_end, key_function, hit_is, key_skip, key_next, key_less, key_here}
+use Rattle.keys.proofs.FoundLaws.{KeyWalk}
 use Rattle.expressions.specs.Calls.{name_of}
-use Rattle.expressions.proofs.ExactLaws.{verb-below, key_told, name-found, name_nowhere}
 use Rattle.expressions.proofs.exact.by_marked.Given as goal
 
 abbrev pub invariant-loop-at : goal.invariant-loop-at

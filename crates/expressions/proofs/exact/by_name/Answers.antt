@@ -1,6 +1,5 @@
 -- The function whose key is the verb, where it takes the arguments.
 -- What `find_key` found is what the map has, since all functions are entered. Assumes nothing.
-use borrow.Author.Rules.{rules}
 use Rattle.keys.proofs.FunctionLaws.{found-function}
 use Rattle.expressions.proofs.ExactLaws.{filter_hit, filter-left, filter_none, verb-below, verb-found}
 use Rattle.expressions.proofs.exact.by_name.Goals as goal

@@ -1,10 +1,8 @@
 -- The function with the longest prefix and `$...`: each prefix is looked for, and the last found is kept.
 -- The invariant: what was asked is what is left from the cell at hand on, or else the best so far. Assumes nothing.
 use native.Mathlib.Omega.{arith}
-use borrow.Author.Rules.{rules}
-use Rattle.syntax.proofs.Lists.{left}
 use Rattle.expressions.proofs.SuffixLaws.{first_cell, key_short}
-use Rattle.expressions.proofs.PrefixLaws.{Prefixed, prefix_start, prefix_marked, prefix_more, prefix_end}
+use Rattle.expressions.proofs.PrefixLaws.{prefix_start, prefix_marked, prefix_more, prefix_end}
 use Rattle.expressions.proofs.exact.by_prefix.Goals as goal
 
 pub verb_digest-digest-requires : goal.verb_digest-digest-requires

@@ -1,6 +1,5 @@
 -- Without arguments the verb is the whole name, and its slot says which function has it as its key.
 -- By the law of the verb's slot. Assumes nothing.
-use borrow.Author.Rules.{rules}
 use Rattle.keys.proofs.FunctionLaws.{found-function}
 use Rattle.expressions.proofs.ExactLaws.{verb-below, verb-found, verb_alone, verb_missing}
 use Rattle.expressions.proofs.exact.by_verb.Goals as goal

@@ -1,6 +1,5 @@
 -- The verb as a key, then the whole name, then the longest prefix with `$...`: the first that finds a function.
 -- By the three answers one after the other. Assumes nothing.
-use borrow.Author.Rules.{rules}
 use Rattle.expressions.proofs.ExactLaws.{exact-verb, exact-name, exact_prefix}
 use Rattle.expressions.proofs.exact.find_exact_function.Goals as goal
 

@@ -1,9 +1,8 @@
 -- The digest of the verb with all suffixes. The invariant: what was asked is the digest at hand, gone on over the cells that are left.
 -- By the laws of that digest, cell by cell. Assumes nothing.
 use mathlib.Core.Path.{refl}
-use Rattle.syntax.proofs.Lists.{left}
 use Rattle.expressions.proofs.SuffixLaws.{first_cell}
-use Rattle.expressions.proofs.NameDigest.{Rolled, rolled_start, rolled-more, rolled_end}
+use Rattle.expressions.proofs.NameDigest.{rolled_start, rolled-more, rolled_end}
 use Rattle.expressions.proofs.exact.full_digest.Goals as goal
 
 pub verb_digest-d-requires : goal.verb_digest-d-requires

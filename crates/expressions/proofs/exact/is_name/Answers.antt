@@ -1,7 +1,6 @@
 -- Whether the part is the name: first the verb, then the suffixes.
 -- A name's two pieces are the same text where each of them is. Assumes nothing.
 use native.Mathlib.Omega.{arith}
-use borrow.Author.Tests.{not-true, not-false}
 use Rattle.expressions.proofs.NameLaws.{number-inside}
 use Rattle.expressions.proofs.ExactLaws.{suffixes-inside, verb-inside, name-other, name-same}
 use Rattle.expressions.proofs.exact.is_name.Goals as goal

@@ -1,7 +1,6 @@
 -- What was found last.
 -- By what was found. Assumes nothing.
 use Rattle.expressions.proofs.PrefixLaws.{later_at}
-use borrow.Author.Rules.{rules}
 use Rattle.expressions.proofs.exact.later.Goals as goal
 
 pub returns-in-At : goal.returns-in-At

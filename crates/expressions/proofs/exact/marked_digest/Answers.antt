@@ -1,7 +1,6 @@
 -- The digest of a text with `$...` behind it.
 -- Four bytes more. Assumes nothing.
 use Rattle.expressions.proofs.PrefixLaws.{marked-rolled}
-use borrow.Author.Rules.{rules}
 use Rattle.expressions.proofs.exact.marked_digest.Goals as goal
 
 pub returns : goal.returns

@@ -1,8 +1,7 @@
 -- The sum is the bytes of all suffixes, and small.
 -- The loop keeps that the sum so far and what the cells left have make up the whole. Assumes nothing.
-use native.Mathlib.Omega.{arith}
 use Rattle.syntax.proofs.Lists.{left}
-use Rattle.expressions.proofs.SuffixLaws.{first_cell, key_short, Summed, sum_start, sum_more, sum_end}
+use Rattle.expressions.proofs.SuffixLaws.{Summed}
 use Rattle.expressions.proofs.exact.suffix_bytes.Given as goal
 
 abbrev pub invariant-loop-cell : goal.invariant-loop-cell

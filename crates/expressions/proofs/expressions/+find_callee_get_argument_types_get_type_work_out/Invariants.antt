@@ -1,17 +1,9 @@
 -- `get_type`, `work_out`, `find_callee` and `get_argument_types` meet their contracts. Their measures are 4e + 3, 4e + 2, 4r + 1 and 4r: a call goes to a lower record, or
 -- down this order. Each need is a law of TypingLaws or of ArgumentTurns; the loop's invariant is `Left`, its measure the cell's number. Assumes nothing.
-use mathlib.Core.Path.{sym, ◌∙◌}
-use Prim.Native.Nat.{ℕ, suc, ◌+◌, ◌*◌, ◌<◌}
+use Prim.Native.Nat.{suc, ◌+◌, ◌*◌}
 use lib.Dec.{eqb}
 use Rattle.laws.specs.Fix.{pick}
-use mathlib.Core.Logic.{⊎_elim}
-use native.Mathlib.Omega.{arith}
-use borrow.Author.Rules.{rules}
-use Rattle.expressions.proofs.SlotLaws.{keyed-frame}
-use Rattle.expressions.proofs.OperandLaws.{operands-are}
-use Rattle.expressions.proofs.TurnLaws.{typing_next}
-use Rattle.expressions.proofs.TypingLaws.{is-typed, is-kind, expr-low, operand-expr, left-expr, right-expr, leaf_kind, unary-stop, unary-next, left-stop, right-stop, right_next_lem, call_value_lem, leaf_meets, look_ready, type-known, keep_ready, keep_meets, call-stop, call_next}
-use Rattle.expressions.proofs.ArgumentTurns.{Left, loop_start_lem, loop_end_lem, cell-inside, cell_falls, turn-type, value_low, turn-stop, turn-value}
+use Rattle.expressions.proofs.ArgumentTurns.{Left}
 use Rattle.expressions.proofs.expressions.+find_callee_get_argument_types_get_type_work_out.Given as goal
 
 abbrev pub decreases-get_argument_types : goal.decreases-get_argument_types

@@ -5,7 +5,6 @@ use native.Mathlib.Omega.{arith}
 use Rattle.records.specs.Rules.{is_expr}
 use Rattle.types.proofs.FromGood.{is_expr_lem}
 use Rattle.expressions.proofs.TypingLaws.{left-expr, right-expr, common-known, sides_meet}
-use borrow.Author.Rules.{rules}
 use Rattle.expressions.proofs.expressions.common_type.Goals as goal
 
 pub is_typed-requires : goal.is_typed-requires

@@ -4,7 +4,6 @@ use Rattle.expressions.proofs.TurnLaws.{typing_next}
 use Rattle.expressions.proofs.TypingLaws.{is-typed}
 use Rattle.expressions.proofs.OperandLaws.{operands-are}
 use Rattle.expressions.proofs.CommonLaws.{left-refused, right-refused, takes_one, takes_none}
-use borrow.Author.Rules.{rules}
 use Rattle.expressions.proofs.expressions.find_common.Goals as goal
 
 pub get_type-requires-in-Is : goal.get_type-requires-in-Is

@@ -1,7 +1,6 @@
 -- `resolve_call` meets its contract: what is kept where the turn remembers the call's type, and else what is found.
 -- By `callee-ready` and `call_known` of TypingLaws. Assumes nothing.
 use Rattle.expressions.proofs.TypingLaws.{callee-ready, call_known}
-use borrow.Author.Rules.{rules}
 use Rattle.expressions.proofs.expressions.resolve_call.Goals as goal
 
 pub is_typed-requires : goal.is_typed-requires

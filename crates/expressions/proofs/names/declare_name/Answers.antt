@@ -2,7 +2,6 @@
 -- By what `declare` owes of the words of the lowest record with the text. Assumes nothing.
 use native.Mathlib.Omega.{arith}
 use Rattle.expressions.proofs.OriginalLaws.{number-inside, origin_inside, slot-inside, origin_declared}
-use borrow.Author.Rules.{rules}
 use Rattle.expressions.proofs.names.declare_name.Goals as goal
 
 pub original-o-requires : goal.original-o-requires

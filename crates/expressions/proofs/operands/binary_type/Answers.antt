@@ -2,7 +2,6 @@
 -- By whether there is a common type, whether it is taken, and the class of results. Assumes nothing.
 use Rattle.records.proofs.GoodLaws.{inside}
 use Rattle.expressions.proofs.OperandLaws.{type_of_lem, found_type_lem, operator-known, none-common, not_taken, gives_bool_lem, gives-common}
-use borrow.Author.Rules.{rules}
 use Rattle.expressions.proofs.operands.binary_type.Goals.{in-At+else-accepts, in_default}
 use Rattle.expressions.proofs.operands.binary_type.Goals as goal
 

@@ -2,7 +2,6 @@
 -- By the cases of the answer. Assumes nothing.
 use mathlib.Core.Path.{sym, ap}
 use Rattle.expressions.specs.Answers.{found_record}
-use borrow.Author.Rules.{rules}
 use Rattle.expressions.proofs.operands.found_record.Goals as goal
 
 pub returns-in-At : goal.returns-in-At

@@ -1,7 +1,6 @@
 -- `literal_type` meets its contract: each literal has one of the twelve first types.
 -- By the kind of the record, and by the marks of an Int and of a Float. Assumes nothing.
 use Rattle.expressions.proofs.LeafLaws.{literal_int, literal_float, literal-str, literal-bool, literal_null, literal-size}
-use borrow.Author.Rules.{rules}
 use Rattle.expressions.proofs.operands.literal_type.Goals as goal
 
 pub kind-k-requires : goal.kind-k-requires

@@ -3,7 +3,6 @@
 use native.Mathlib.Omega.{arith}
 use Rattle.expressions.proofs.LeafLaws.{name-known, name_unknown}
 use Rattle.expressions.proofs.OriginalLaws.{name-asked}
-use borrow.Author.Rules.{rules}
 use Rattle.expressions.proofs.operands.name_type.Goals as goal
 
 pub find_name-requires : goal.find_name-requires

@@ -2,7 +2,6 @@
 -- By the callee, and by the function's word D. Assumes nothing.
 use native.Mathlib.Omega.{arith}
 use Rattle.expressions.proofs.LeafLaws.{function-inside, value-refused, value-cast, value_none, value_some}
-use borrow.Author.Rules.{rules}
 use Rattle.expressions.proofs.operands.value_type.Goals as goal
 
 pub reference-y-requires : goal.reference-y-requires

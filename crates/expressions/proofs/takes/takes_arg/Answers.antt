@@ -4,7 +4,6 @@ use native.Mathlib.Omega.{arith}
 use Rattle.syntax.proofs.Lists.{cell_below}
 use Rattle.expressions.proofs.ArgumentLaws.{of-expr, slot-type}
 use Rattle.expressions.proofs.TakeLaws.{as_type, at_parameter, at-variable, variable_type_lem, takes_value, takes_type}
-use borrow.Author.Rules.{rules}
 use Rattle.expressions.proofs.takes.takes_arg.Goals as goal
 
 pub reference-requires : goal.reference-requires

@@ -1,14 +1,13 @@
 -- Whether what was asked takes all is whether what is left does, a parameter and an argument at a time.
 -- The laws of the first of both lists, and a number that falls with each parameter. Assumes nothing.
-use mathlib.Core.Path.{◌≡◌, refl}
+use mathlib.Core.Path.{◌≡◌}
 use Rattle.syntax.specs.Decode.{program}
 use Rattle.conversion.specs.Expressions.{takes_args}
 use Rattle.syntax.specs.Places.{ArgsAt, ParamsAt, args_at, params_at}
 use Rattle.keys.specs.Keys.{all_keys}
 use Rattle.expressions.specs.Slots.{ArgsTyped}
 use Rattle.expressions.specs.Calls.{typed_at}
-use Rattle.syntax.proofs.Lists.{left, cell_below, next-list, next_falls}
-use Rattle.expressions.proofs.TakeLaws.{all-no, all_more, arguments_end, params_end_all, next-args-typed}
+use Rattle.syntax.proofs.Lists.{left}
 use Rattle.expressions.proofs.takes.takes_args.Given as goal
 
 abbrev pub invariant-loop-parameter : goal.invariant-loop-parameter

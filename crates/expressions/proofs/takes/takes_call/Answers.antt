@@ -3,7 +3,6 @@
 use mathlib.Core.Bool.{not}
 use mathlib.Core.Path.{ap}
 use Rattle.expressions.proofs.TakeLaws.{args-no, args-all}
-use borrow.Author.Rules.{rules}
 use Rattle.expressions.proofs.takes.takes_call.Goals as goal
 
 pub returns-then-not-takes_count : goal.returns-then-not-takes_count

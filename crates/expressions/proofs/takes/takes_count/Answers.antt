@@ -1,7 +1,6 @@
 -- As many as the parameters, or more when variadic: by the two tests.
 -- The laws of the count. Assumes nothing.
 use Rattle.expressions.proofs.TakeLaws.{count_same, count-variadic, count_plain}
-use borrow.Author.Rules.{rules}
 use Rattle.expressions.proofs.takes.takes_count.Goals as goal
 
 pub returns-then-own-count : goal.returns-then-own-count

@@ -1,10 +1,8 @@
 -- `forget` clears the bytes of the turns and of what is kept beside the types, with the count of visits.
 -- By the laws of a byte that is set; the measure is what is left up to 72n. Assumes nothing.
-use mathlib.Core.Path.{refl}
 use Prim.Native.Nat.{◌*◌, ◌-◌}
-use borrow.Author.Rules.{rules}
 use Rattle.records.specs.Words.{records}
-use Rattle.expressions.proofs.ForgetLaws.{Cleared, clear_start, clear_next, clear_end}
+use Rattle.expressions.proofs.ForgetLaws.{Cleared}
 use Rattle.expressions.proofs.turns.forget.Given as goal
 
 abbrev pub invariant-loop-i : goal.invariant-loop-i

@@ -1,6 +1,5 @@
 -- `keep` meets its contract: a refusal leaves all as it was, and a type is kept by one visit.
 -- By `keeps_refusal` and `keeps_type` of TypingLaws. Assumes nothing.
-use borrow.Author.Rules.{rules}
 use Rattle.expressions.proofs.TypingLaws.{keeps_refusal, keeps_type}
 use Rattle.expressions.proofs.turns.keep.Goals as goal
 

@@ -3,7 +3,6 @@
 use native.Mathlib.Omega.{arith}
 use Rattle.expressions.specs.Slots.{visits_at}
 use Rattle.expressions.proofs.TurnLaws.{visit_is}
-use borrow.Author.Rules.{rules}
 use Rattle.expressions.proofs.turns.visit.Goals as goal
 
 pub overflow_add-visits : goal.overflow_add-visits

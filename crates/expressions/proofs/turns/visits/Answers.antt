@@ -1,7 +1,6 @@
 -- The word that counts the visits, behind the turns.
 -- By the definition of that word. Assumes nothing.
 use Rattle.expressions.specs.Slots.{visits_at}
-use borrow.Author.Rules.{rules}
 use Rattle.expressions.proofs.turns.visits.Goals as goal
 
 pub returns : goal.returns

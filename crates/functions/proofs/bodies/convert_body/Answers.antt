@@ -5,7 +5,6 @@ use native.Mathlib.Omega.{arith}
 use Rattle.functions.proofs.BodyLaws.{block_afforded, body-list, function-small, body_misses, entry-room, body_refused, body-done, body-visited}
 use Rattle.statements.proofs.HeadLaws.{refused-finished}
 use Rattle.statements.specs.Lent.{finished_with}
-use borrow.Author.Rules.{rules}
 use Rattle.functions.proofs.bodies.convert_body.Goals as goal
 
 pub convert_block-requires : goal.convert_block-requires

@@ -5,7 +5,6 @@ use mathlib.Core.Path.{ap}
 use native.Mathlib.Omega.{arith}
 use Rattle.functions.proofs.BodyLaws.{function-room, function-bare, vars-room, body_needs, function-refused, function_as, bare-visited, function-visited}
 use Rattle.statements.proofs.HeadLaws.{refused-finished}
-use borrow.Author.Rules.{rules}
 use Rattle.functions.proofs.bodies.convert_func.Goals as goal
 
 pub add_function-requires : goal.add_function-requires

@@ -1,7 +1,6 @@
 -- `has_body` meets its contract: 4 in the detail is the mark of a body.
 -- By what a good tree says of a function. Assumes nothing.
 use Rattle.functions.proofs.BodyLaws.{body_mark_lem}
-use borrow.Author.Rules.{rules}
 use Rattle.functions.proofs.bodies.has_body.Goals as goal
 
 pub returns : goal.returns

@@ -1,7 +1,6 @@
 -- `misses_return` meets its contract: there is a return type, and the body does not always return.
 -- By the word of the return type, and by what `always_returns` ensures. Assumes nothing.
 use Rattle.functions.proofs.BodyLaws.{misses_none, misses_some, body-list}
-use borrow.Author.Rules.{rules}
 use Rattle.functions.proofs.bodies.misses_return.Goals as goal
 
 pub returns-then-reference : goal.returns-then-reference

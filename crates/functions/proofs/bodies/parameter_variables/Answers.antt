@@ -1,11 +1,8 @@
 -- `parameter_variables` meets its contract: a variable for each parameter, one turn for each.
 -- The invariant: what is left makes, with what was added, the whole; the measure is the cell's number. Assumes nothing.
-use mathlib.Core.Path.{◌≡◌, refl}
-use lib.ListN.{length}
+use mathlib.Core.Path.{refl}
 use native.Mathlib.Omega.{arith}
-use Rattle.ir.specs.Counted.{counted}
-use Rattle.syntax.proofs.Lists.{left}
-use Rattle.functions.proofs.BodyLaws.{VarsLeft, vars_start, vars_end, vars-next, cell-inside, cell_below, cell_falls, item-inside, var_room}
+use Rattle.functions.proofs.BodyLaws.{vars_start, vars_end, vars-next, cell-inside, cell_below, cell_falls, item-inside, var_room}
 use Rattle.functions.proofs.bodies.parameter_variables.Goals as goal
 
 pub parameters_of-cell-requires : goal.parameters_of-cell-requires

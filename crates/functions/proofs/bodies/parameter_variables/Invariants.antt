@@ -1,11 +1,10 @@
 -- `parameter_variables` meets its contract: a variable for each parameter, one turn for each.
 -- The invariant: what is left makes, with what was added, the whole; the measure is the cell's number. Assumes nothing.
-use mathlib.Core.Path.{◌≡◌, refl}
+use mathlib.Core.Path.{◌≡◌}
 use lib.ListN.{length}
-use native.Mathlib.Omega.{arith}
 use Rattle.ir.specs.Counted.{counted}
 use Rattle.syntax.proofs.Lists.{left}
-use Rattle.functions.proofs.BodyLaws.{VarsLeft, vars_start, vars_end, vars-next, cell-inside, cell_below, cell_falls, item-inside, var_room}
+use Rattle.functions.proofs.BodyLaws.{VarsLeft}
 use Rattle.functions.proofs.bodies.parameter_variables.Given as goal
 
 abbrev pub invariant-loop-cell : goal.invariant-loop-cell

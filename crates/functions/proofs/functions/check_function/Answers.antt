@@ -1,9 +1,6 @@
 -- One turn: the function under its key, or the definition's refusal, in its order of tests.
 -- The case of the turn that each branch is. Assumes nothing.
-use native.Mathlib.Omega.{arith}
-use borrow.Author.Tests.{not-true, not-false}
 use Rattle.functions.proofs.FunctionCases.{is_latin, is_foreign, signature_taken, signature_new, symbol_taken, symbol_new}
-use borrow.Author.Rules.{rules}
 use Rattle.functions.proofs.functions.check_function.Goals as goal
 
 pub returns-then-is_ascii : goal.returns-then-is_ascii

@@ -3,7 +3,6 @@
 use native.Mathlib.Omega.{arith}
 use Rattle.keys.proofs.FunctionLaws.{found-function}
 use Rattle.functions.proofs.FunctionCases.{main_fine, main_other, main_missing, main_spared}
-use borrow.Author.Rules.{rules}
 use Rattle.functions.proofs.functions.check_main.Goals as goal
 
 pub returns_int-requires : goal.returns_int-requires

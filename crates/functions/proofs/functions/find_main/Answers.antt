@@ -1,9 +1,8 @@
 -- The first function named `main` is what the definition finds: what was asked equals what is left from the place at hand on.
 -- The laws of the search at each turn, at a hit and at the end. Assumes nothing.
-use Prim.Native.Nat.{◌≤◌, ◌-◌}
 use native.Mathlib.Omega.{arith}
 use Rattle.keys.specs.Keys.{a_function, none_found}
-use Rattle.functions.proofs.Turns.{MainLeft, main_start}
+use Rattle.functions.proofs.Turns.{main_start}
 use Rattle.functions.proofs.FunctionCases.{main_here, main_next, main_nowhere}
 use Rattle.functions.proofs.functions.find_main.Goals as goal
 

@@ -1,12 +1,7 @@
 -- All functions are listed and entered by distinct keys, or the first that is not fine is refused: what was asked equals what is left from the place at hand on.
 -- The laws of the turns: the start, one more, a refusal, the end. Assumes nothing.
-use mathlib.Core.Path.{ap, ◌∙◌}
 use Prim.Native.Nat.{◌-◌}
-use native.Mathlib.Omega.{arith}
-use lib.ListN.{length}
-use borrow.Author.Rules.{rules}
-use Rattle.functions.proofs.Listing.{listed-length}
-use Rattle.functions.proofs.FunctionCases.{Entered, start_keeps, entered_start, entered-next, entered-refused, entered-done}
+use Rattle.functions.proofs.FunctionCases.{Entered}
 use Rattle.functions.proofs.functions.get_all_functions.Given as goal
 
 abbrev pub invariant-loop-j : goal.invariant-loop-j

@@ -1,9 +1,7 @@
 -- The functions' records stand in scratch. The invariant: those of the records passed are listed, and counted. The measure is what is left.
 -- The laws of the list, one record at a time. Assumes nothing.
 use mathlib.Core.Path.{refl, sym, ◌∙◌}
-use Prim.Native.Nat.{◌-◌}
-use native.Mathlib.Omega.{arith}
-use Rattle.functions.proofs.Listing.{Listing, listing_start, listing_skip, listing_put, listing_end}
+use Rattle.functions.proofs.Listing.{listing_start, listing_skip, listing_put, listing_end}
 use Rattle.functions.proofs.functions.list_functions.Goals.{else-kind-eq-KIND_FUNCTION, then-kind-eq-KIND_FUNCTION}
 use Rattle.functions.proofs.functions.list_functions.Goals as goal
 

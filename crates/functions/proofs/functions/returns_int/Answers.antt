@@ -1,7 +1,6 @@
 -- Whether a function returns an integer: no where it has no return type, else by its type's form.
 -- The word of the return type, read as the definition reads it. Assumes nothing.
 use Rattle.functions.proofs.FunctionCases.{returns-none, returns-inside, returns-type}
-use borrow.Author.Rules.{rules}
 use Rattle.functions.proofs.functions.returns_int.Goals as goal
 
 pub returns-then-ty : goal.returns-then-ty

@@ -2,7 +2,6 @@
 -- What `declare_name` owes of the parameter's record; there is always room. Assumes nothing.
 use native.Mathlib.Omega.{arith}
 use mathlib.Core.Path.{refl}
-use borrow.Author.Rules.{rules}
 use Rattle.functions.proofs.ParameterLaws.{place_inside, place-word, place-asked, met_room, met_done, met_taken, one_more-turns}
 use Rattle.functions.proofs.parameters.declare_parameter.Goals as goal
 

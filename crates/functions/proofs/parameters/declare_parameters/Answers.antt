@@ -2,9 +2,8 @@
 -- The invariant: what was asked equals what is left of the parameters, from the scope so far; the measure is the cell's number. Assumes nothing.
 use native.Mathlib.Omega.{arith}
 use mathlib.Core.Path.{refl}
-use borrow.Author.Rules.{rules}
-use Rattle.syntax.proofs.Lists.{left, next_falls}
-use Rattle.functions.proofs.ParameterLaws.{names-only, only-turns, Turn, start, turn_end, still_few, turn-refused, turn-next}
+use Rattle.syntax.proofs.Lists.{next_falls}
+use Rattle.functions.proofs.ParameterLaws.{names-only, only-turns, start, turn_end, still_few, turn-refused, turn-next}
 use Rattle.functions.proofs.parameters.declare_parameters.Goals as goal
 
 pub parameters_of-cell-requires : goal.parameters_of-cell-requires

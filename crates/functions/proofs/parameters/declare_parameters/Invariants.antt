@@ -1,10 +1,7 @@
 -- The scope with which the body of a function begins: its parameters, one turn for each.
 -- The invariant: what was asked equals what is left of the parameters, from the scope so far; the measure is the cell's number. Assumes nothing.
-use native.Mathlib.Omega.{arith}
-use mathlib.Core.Path.{refl}
-use borrow.Author.Rules.{rules}
-use Rattle.syntax.proofs.Lists.{left, next_falls}
-use Rattle.functions.proofs.ParameterLaws.{names-only, only-turns, Turn, start, turn_end, still_few, turn-refused, turn-next}
+use Rattle.syntax.proofs.Lists.{left}
+use Rattle.functions.proofs.ParameterLaws.{Turn}
 use Rattle.functions.proofs.parameters.declare_parameters.Given as goal
 
 abbrev pub invariant-loop-cell : goal.invariant-loop-cell

@@ -1,9 +1,8 @@
 -- `statement_returns` and `always_returns` meet their contracts. Their measures are 2r + 1 for a statement and twice what is left of a block's cells: each call goes to what lies below.
 -- Each need is a law of ReturnLaws; the loop's invariant is `ReturnsLeft`, its measure the cell's number. Assumes nothing.
-use native.Mathlib.Omega.{arith}
 use Rattle.syntax.proofs.Lists.{left}
-use Rattle.functions.proofs.ReturnLaws.{ReturnsLeft, returns_start, returns_end, cell-inside, cell_falls, item_statement, item-less, returns-here, returns-next, statement_inside, a-return, another, first_block, second_block, no_otherwise, first-not, by-second}
-use Prim.Native.Nat.{ℕ, ◌+◌, ◌*◌, ◌<◌}
+use Rattle.functions.proofs.ReturnLaws.{ReturnsLeft}
+use Prim.Native.Nat.{◌+◌, ◌*◌}
 use Rattle.functions.proofs.returns.+always_returns_statement_returns.Given as goal
 
 abbrev pub decreases-always_returns : goal.decreases-always_returns

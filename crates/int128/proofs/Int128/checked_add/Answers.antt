@@ -4,7 +4,6 @@ use mathlib.Core.Path.{◌∙◌, ap}
 use lib.IntN.{◌+ℤ◌, +ℤ_idr}
 use Rattle.int128.specs.Value.{value_of}
 use Rattle.int128.specs.Ops.{exact}
-use borrow.Author.Rules.{rules}
 use Rattle.int128.proofs.Int128.checked_add.Goals as goal
 
 pub returns : goal.returns

@@ -2,14 +2,12 @@
 -- What the callees ensure, and the laws of `Sign`.
 use Prim.Native.Nat.{ℕ, ◌/◌}
 use mathlib.Core.Path.{◌≡◌, ◌∙◌, sym, ap, ap₂}
-use mathlib.Core.Bool.{false}
 use lib.Dec.{eqb}
 use lib.IntN.{nat_abs}
 use borrow.Author.Tests.{eqb-false}
 use Rattle.int128.specs.Value.{bits_of, value_of}
 use Rattle.int128.proofs.Halves.{positive}
 use Rattle.int128.proofs.Sign.{div-none, div_is}
-use borrow.Author.Rules.{rules}
 use Rattle.int128.proofs.Int128.checked_div.Goals as goal
 
 pub returns-then-is_zero : goal.returns-then-is_zero

@@ -1,14 +1,13 @@
 -- `int128::Int128::checked_mul` meets its contract: the product of the magnitudes, with the sign of the two signs.
 -- What the callees ensure, and the laws of `Sign`.
 use Prim.Native.Nat.{ℕ, ◌*◌, ◌^◌, ◌≤◌}
-use mathlib.Core.Path.{◌≡◌, ◌∙◌, sym, ap, ap₂, subst}
+use mathlib.Core.Path.{◌∙◌, sym, ap, ap₂, subst}
 use lib.IntN.{nat_abs}
 use Rattle.int128.specs.Value.{value_of}
 use Rattle.int128.specs.Ops.{exact}
 use Rattle.int128.specs.Magnitude.{IsProduct}
 use Rattle.int128.proofs.Sign.{mul_signed, unlike, unlike_is, signed_over}
 use Prim.Native.Nat.{ℕ, ◌*◌}
-use borrow.Author.Rules.{rules}
 use Rattle.int128.proofs.Int128.checked_mul.Goals as goal
 
 pub returns-in-Fits : goal.returns-in-Fits

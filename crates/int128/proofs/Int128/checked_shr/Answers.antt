@@ -1,9 +1,8 @@
 -- `int128::Int128::checked_shr` meets its contract: the bits are shifted, below 0 those of the complement, which rounds down.
 -- What `shr_bits` and `not` ensure, and the cases of `Counts`.
-use Prim.Native.Nat.{ℕ, ◌-◌, ◌/◌, ◌^◌}
-use mathlib.Core.Path.{◌≡◌, ◌∙◌, ap, sym}
+use Prim.Native.Nat.{ℕ, ◌/◌, ◌^◌}
+use mathlib.Core.Path.{◌∙◌, ap}
 use mathlib.Core.Option.{some}
-use lib.IntN.{ℤ}
 use Rattle.int128.specs.Value.{bits_of, value_of}
 use Rattle.int128.proofs.Whole.{fits, less, more}
 use Rattle.int128.proofs.Complement.{not-bits, bits-not}

@@ -1,9 +1,9 @@
 -- `int128::Int128::eq` meets its contract: equal halves are equal values, and one value has one pair of halves.
 -- `Whole.value_inj` and the laws of `Halves`, at 64 bits.
 use Prim.Native.Nat.{ℕ, ◌+◌, ◌*◌, ◌^◌}
-use mathlib.Core.Path.{◌∙◌, ap, ap₂}
-use mathlib.Core.Bool.{Bool, true, false}
-use mathlib.Core.Path.{◌≡◌, subst}
+use mathlib.Core.Path.{ap₂}
+use mathlib.Core.Bool.{Bool}
+use mathlib.Core.Path.{subst}
 use lib.Dec.{T}
 use mir.Syntax.{w128}
 use mir.Val.{to_z}

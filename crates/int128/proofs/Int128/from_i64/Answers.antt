@@ -9,7 +9,7 @@ use lib.IntN.{ℤ, pos, negsuc, nat_abs, ◌-ℤ◌}
 use lib.Signed.{non_neg}
 use mir.Syntax.{w64, w128}
 use mir.Val.{to_z, of_z, Fits, SFits}
-use mir.ValLaws.{to_z-of_z, to_z-Fits}
+use mir.ValLaws.{to_z-of_z}
 use Rattle.int128.proofs.Small.{word, Negative, negative_is, Positive, positive_is, ones_value}
 use Rattle.int128.proofs.Int128.from_i64.Goals as goal
 

@@ -4,7 +4,6 @@ use mathlib.Core.Path.{◌∙◌, ap}
 use mathlib.Core.Bool.{not}
 use Rattle.int128.specs.Value.{value_of}
 use Rattle.int128.proofs.Compare.{not-less}
-use borrow.Author.Rules.{rules}
 use Rattle.int128.proofs.Int128.le.Goals as goal
 
 pub returns : goal.returns

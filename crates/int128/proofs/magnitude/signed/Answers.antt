@@ -1,7 +1,6 @@
 -- `int128::magnitude::signed` meets its contract: a magnitude below 2 ^ 127 takes either sign, and 2 ^ 127 only the one below 0.
 -- The cases of `Sign`, with the sign as the tests left it.
-use Prim.Native.Nat.{◌^◌}
-use mathlib.Core.Path.{◌≡◌, ◌∙◌, sym, ap}
+use mathlib.Core.Path.{◌∙◌, sym, ap}
 use mathlib.Core.Bool.{Bool}
 use lib.IntN.{ℤ, neg_ℤ}
 use Rattle.int128.specs.Value.{bits_of}

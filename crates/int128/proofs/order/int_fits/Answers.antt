@@ -6,7 +6,6 @@ use lib.IntN.{ℤ}
 use lib.Signed.{le_z}
 use Rattle.int128.specs.Value.{value_of}
 use Rattle.int128.specs.Ops.{least_of, greatest_of}
-use borrow.Author.Rules.{rules}
 use Rattle.int128.proofs.order.int_fits.Goals as goal
 
 pub returns-then-le : goal.returns-then-le

@@ -1,7 +1,6 @@
 -- `int128::product::mul_bits` meets its contract: with an upper half of 0 one factor is a word, and otherwise the product is 2 ^ 128 or more.
 -- The three cases of `Products`.
 use Rattle.int128.proofs.Products.{one_word, other_word, both_long}
-use borrow.Author.Rules.{rules}
 use Rattle.int128.proofs.product.mul_bits.Goals as goal
 
 pub returns-then-a-eq0 : goal.returns-then-a-eq0

@@ -1,8 +1,7 @@
 -- `int128::product::mul_word` meets its contract: the two halves' products, the one's upper half added to the other's lower.
 -- `Products`, at halves of 64 bits.
-use Prim.Native.Nat.{ℕ, ◌+◌, ◌-◌, ◌*◌, ◌^◌, ◌≤◌, ◌<◌}
+use Prim.Native.Nat.{ℕ, ◌+◌, ◌-◌, ◌^◌, ◌≤◌, ◌<◌}
 use native.Mathlib.Omega.{arith}
-use mathlib.Core.Path.{◌≡◌}
 use Rattle.int128.proofs.Products.{word_fits, word_over, word-high}
 use borrow.Author.Rules.{rules}
 use Rattle.int128.proofs.product.mul_word.Goals as goal

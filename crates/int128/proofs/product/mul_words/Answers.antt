@@ -4,7 +4,7 @@ use Prim.Native.Nat.{ℕ, ◌+◌, ◌-◌, ◌*◌, ◌/◌, ◌%◌, ◌^◌, 
 use native.Mathlib.Nat.{mod-lt, div-add-mod'}
 use native.Mathlib.Omega.{arith}
 use lib.Pow.{pow_pos}
-use mathlib.Core.Path.{◌≡◌, ◌∙◌, sym, ap₂}
+use mathlib.Core.Path.{◌∙◌, sym, ap₂}
 use Rattle.int128.proofs.Columns.{columns, digits_le}
 use borrow.Author.Rules.{rules}
 use Rattle.int128.proofs.product.mul_words.Goals as goal

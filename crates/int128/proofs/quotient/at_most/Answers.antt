@@ -1,8 +1,8 @@
 -- `int128::quotient::at_most` meets its contract: the product is compared where it fits, and is above any magnitude where it does not.
 -- What `mul_word` and `below` ensure.
-use Prim.Native.Nat.{ℕ, ◌*◌, ◌^◌, ◌≤◌}
+use Prim.Native.Nat.{ℕ, ◌*◌}
 use native.Mathlib.Nat.{lt_of_lt_of_le}
-use mathlib.Core.Path.{◌≡◌, ◌∙◌, sym, ap, subst}
+use mathlib.Core.Path.{◌∙◌, sym, ap, subst}
 use mathlib.Core.Bool.{not}
 use lib.Dec.{leb}
 use borrow.Author.Tests.{lt-leb}

@@ -1,11 +1,11 @@
 -- `int128::quotient::div_long` meets its contract: the leading 64 bits of the divisor, and as much of the dividend, give an estimate that is settled.
 -- The laws of `Normal` for the leading parts, and `Digits.over` and `Digits.near` for the estimate.
-use Prim.Native.Nat.{ℕ, ◌+◌, ◌-◌, ◌*◌, ◌/◌, ◌%◌, ◌^◌, ◌≤◌, ◌<◌}
-use native.Mathlib.Nat.{mod-lt, lt_of_lt_of_le, le_trans, mul-le-mul_left, div-lt_iff_lt-mul, mul_comm, le_of_eq}
+use Prim.Native.Nat.{ℕ, ◌+◌, ◌-◌, ◌*◌, ◌/◌, ◌^◌, ◌≤◌, ◌<◌}
+use native.Mathlib.Nat.{lt_of_lt_of_le, mul-le-mul_left, div-lt_iff_lt-mul}
 use native.Mathlib.Omega.{arith}
 use lib.Dec.{lit<}
 use lib.Pow.{pow_pos}
-use mathlib.Core.Path.{◌≡◌, ◌∙◌, sym, ap, ap₂, subst}
+use mathlib.Core.Path.{◌≡◌, ◌∙◌, sym, ap₂, subst}
 use Rattle.int128.specs.Value.{bits_of}
 use Rattle.int128.proofs.Whole.{fits}
 use Rattle.int128.proofs.Halves.{upper_pos, only-lower, no_upper}

@@ -1,12 +1,10 @@
 -- `int128::quotient::div_rem` meets its contract: a divisor with an upper half of 0 is one word, any other is 2 ^ 64 or more.
 -- What `div_word` and `div_long` ensure.
 use Prim.Native.Nat.{ℕ, ◌+◌, ◌*◌, ◌/◌, ◌%◌, ◌^◌, ◌<◌}
-use native.Mathlib.Omega.{arith}
 use mathlib.Core.Path.{◌≡◌, ◌∙◌, sym, ap, subst}
 use Rattle.int128.specs.declared.Int128.{Int128}
 use Rattle.int128.specs.Value.{bits_of}
 use Rattle.int128.proofs.Halves.{above, no_upper, positive}
-use borrow.Author.Rules.{rules}
 use Rattle.int128.proofs.quotient.div_rem.Goals as goal
 
 one_word : (d : Int128) → d.hi ≡ 0 → bits_of d ≡ d.lo

@@ -1,6 +1,6 @@
 -- `int128::quotient::div_two` meets its contract: dividend and divisor are shifted alike, which leaves the quotient, and two digits of 32 bits are taken.
 -- The laws of `Normal` for the shift and of `Digits` for the digits; with an upper no-upper of 0 it is one division of words.
-use Prim.Native.Nat.{ℕ, ◌+◌, ◌-◌, ◌*◌, ◌/◌, ◌%◌, ◌^◌, ◌≤◌, ◌<◌, zero-le}
+use Prim.Native.Nat.{ℕ, ◌+◌, ◌*◌, ◌/◌, ◌%◌, ◌^◌, ◌≤◌, ◌<◌, zero-le}
 use native.Mathlib.Nat.{mod-lt, mod-eq_of_lt, lt_of_le_of_lt, lt_of_lt_of_le}
 use native.Mathlib.Omega.{arith}
 use lib.Dec.{lit<}

@@ -1,12 +1,10 @@
 -- `int128::quotient::div_word` meets its contract: two digits of 64 bits, of which the first is one division of words.
 -- `Digits.carry_div` and `Digits.carry_mod` in base 2 ^ 64, and what `div_two` ensures.
-use Prim.Native.Nat.{ℕ, ◌+◌, ◌*◌, ◌/◌, ◌%◌, ◌^◌}
+use Prim.Native.Nat.{ℕ, ◌+◌, ◌*◌, ◌/◌, ◌^◌}
 use native.Mathlib.Nat.{mod-lt}
-use native.Mathlib.Omega.{arith}
-use mathlib.Core.Path.{◌≡◌, ◌∙◌, sym, ap}
+use mathlib.Core.Path.{◌∙◌, sym, ap}
 use Rattle.int128.proofs.Halves.{no_upper}
 use Rattle.int128.proofs.Digits.{carry_div, carry_mod}
-use borrow.Author.Rules.{rules}
 use Rattle.int128.proofs.quotient.div_word.Goals as goal
 
 pub div_two-lower-requires : goal.div_two-lower-requires

@@ -1,8 +1,8 @@
 -- `int128::quotient::rest` meets its contract: the quotient times the divisor is at most the dividend, so it fits, and the difference is the remainder.
 -- The laws of `Digits`, after what `mul_word` and `sub_bits` ensure.
-use Prim.Native.Nat.{ℕ, ◌-◌, ◌*◌, ◌^◌, ◌≤◌}
+use Prim.Native.Nat.{ℕ, ◌-◌, ◌≤◌}
 use native.Mathlib.Nat.{lt_of_lt_of_le, le_trans, lt_irrefl}
-use mathlib.Core.Path.{◌≡◌, ◌∙◌, sym, ap, subst}
+use mathlib.Core.Path.{◌∙◌, sym, ap, subst}
 use Rattle.int128.specs.Value.{bits_of}
 use Rattle.int128.specs.Magnitude.{IsProduct}
 use Rattle.int128.proofs.Whole.{fits}

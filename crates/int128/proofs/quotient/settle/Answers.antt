@@ -2,9 +2,8 @@
 -- The measure is what q is above the quotient: so the loop turns at most twice.
 use Prim.Native.Nat.{ℕ, ◌+◌, ◌-◌, ◌*◌, ◌/◌, ◌≤◌, ◌<◌}
 use native.Mathlib.Omega.{arith}
-use mathlib.Core.Path.{◌≡◌, sym, ◌∙◌}
-use borrow.Author.Rules.{rules}
-use borrow.Author.Tests.{leb-true, leb-false, not-true, not-false}
+use mathlib.Core.Path.{sym, ◌∙◌}
+use borrow.Author.Tests.{leb-true, leb-false}
 use Rattle.int128.specs.Value.{bits_of}
 use Rattle.int128.proofs.Digits.{exactly, too_large}
 use Rattle.int128.proofs.quotient.settle.Goals as goal

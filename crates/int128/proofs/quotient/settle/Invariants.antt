@@ -1,12 +1,7 @@
 -- `int128::quotient::settle` meets its contract. The loop's invariant: q is the quotient or at most 2 above it; a turn goes round only where q is above it.
 -- The measure is what q is above the quotient: so the loop turns at most twice.
-use Prim.Native.Nat.{ℕ, ◌+◌, ◌-◌, ◌*◌, ◌/◌, ◌≤◌, ◌<◌}
-use native.Mathlib.Omega.{arith}
-use mathlib.Core.Path.{◌≡◌, sym, ◌∙◌}
-use borrow.Author.Rules.{rules}
-use borrow.Author.Tests.{leb-true, leb-false, not-true, not-false}
+use Prim.Native.Nat.{◌+◌, ◌-◌, ◌/◌, ◌≤◌}
 use Rattle.int128.specs.Value.{bits_of}
-use Rattle.int128.proofs.Digits.{exactly, too_large}
 use Rattle.int128.proofs.quotient.settle.Given as goal
 
 abbrev pub invariant-loop-n : goal.invariant-loop-n

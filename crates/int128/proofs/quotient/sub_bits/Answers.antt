@@ -1,6 +1,6 @@
 -- `int128::quotient::sub_bits` meets its contract: the halves' differences, with a borrow where the lower halves are the other way round.
 -- The laws of `Halves` at 64 bits.
-use Prim.Native.Nat.{ℕ, ◌+◌, ◌-◌, ◌*◌, ◌^◌, ◌≤◌, ◌<◌}
+use Prim.Native.Nat.{ℕ, ◌+◌, ◌-◌, ◌^◌, ◌≤◌, ◌<◌}
 use native.Mathlib.Nat.{le_of_lt}
 use native.Mathlib.Omega.{arith}
 use Rattle.int128.specs.declared.Int128.{Int128}

@@ -1,7 +1,6 @@
 -- `int128::sums::sum` meets its contract: by the signs of the two numbers and of the bits of their sum.
 -- The halves' sums give the whole's (`Halves.carried`), and each return cites its case of `Signs`.
-use Prim.Native.Nat.{ℕ, ◌<◌, ◌^◌, ◌≤◌, ◌+◌, ◌*◌}
-use native.Mathlib.Omega.{arith}
+use Prim.Native.Nat.{◌^◌}
 use borrow.Author.Rules.{rules}
 use Rattle.int128.proofs.Halves.{carried}
 use Rattle.int128.proofs.Signs.{Added, low-low-low, low-low-high, mixed, mixed', high-high-low, high-high-high}

@@ -1,6 +1,5 @@
 -- A variable more.
 -- From what `put_word` wrote. Assumes nothing.
-use borrow.Author.Rules.{rules}
 use Rattle.ir.proofs.Answers.{var_done}
 use Rattle.ir.proofs.counter.add_var.Goals as goal
 

@@ -1,6 +1,5 @@
 -- Whether a number is that of a label.
 -- Beyond the function's labels it is none's, below their count the entry tells. Assumes nothing.
-use borrow.Author.Rules.{rules}
 use Rattle.ir.proofs.SearchLaws.{label_beyond, label_within}
 use Rattle.ir.proofs.counter.is_label.Goals as goal
 

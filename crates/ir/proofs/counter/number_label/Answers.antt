@@ -1,7 +1,6 @@
 -- The label of a kind and a record.
 -- It is the one under the number at its slot, or a label more. Assumes nothing.
 use mathlib.Core.Path.{refl}
-use borrow.Author.Rules.{rules}
 use Rattle.ir.proofs.Answers.{label_found, label_new}
 use Rattle.ir.proofs.counter.number_label.Goals as goal
 

@@ -1,11 +1,9 @@
 -- After i turns i bytes from `at` on are zero, and the rest is as found. The measure is what is left.
 -- One turn is the law of a copy, of zeros. Assumes nothing.
-use mathlib.Core.Path.{◌≡◌, refl, ◌∙◌}
-use Prim.Native.Nat.{◌≤◌, ◌-◌}
+use mathlib.Core.Path.{refl, ◌∙◌}
 use native.Mathlib.Omega.{arith}
-use lib.ListN.{length, length-set}
-use lib.Seq.{paste}
-use Rattle.ir.proofs.CutLaws.{zeros, clear_none, clear_more, clear_end}
+use lib.ListN.{length-set}
+use Rattle.ir.proofs.CutLaws.{clear_none, clear_more, clear_end}
 use Rattle.ir.proofs.cut.clear_from.Goals as goal
 
 pub loop-i-init : goal.loop-i-init

@@ -1,11 +1,10 @@
 -- After i turns i bytes from `at` on are zero, and the rest is as found. The measure is what is left.
 -- One turn is the law of a copy, of zeros. Assumes nothing.
-use mathlib.Core.Path.{◌≡◌, refl, ◌∙◌}
+use mathlib.Core.Path.{◌≡◌}
 use Prim.Native.Nat.{◌≤◌, ◌-◌}
-use native.Mathlib.Omega.{arith}
-use lib.ListN.{length, length-set}
+use lib.ListN.{length}
 use lib.Seq.{paste}
-use Rattle.ir.proofs.CutLaws.{zeros, clear_none, clear_more, clear_end}
+use Rattle.ir.proofs.CutLaws.{zeros}
 use Rattle.ir.proofs.cut.clear_from.Given as goal
 
 abbrev pub invariant-loop-i : goal.invariant-loop-i

@@ -1,11 +1,8 @@
 -- After i turns the first i bytes are copied, and the rest is as found. The measure is what is left.
 -- One turn is the law of a copy. Assumes nothing.
 use mathlib.Core.Path.{◌≡◌, refl}
-use mathlib.Core.List.{◌++◌}
-use Prim.Native.Nat.{◌≤◌, ◌-◌}
 use native.Mathlib.Omega.{arith}
-use lib.ListN.{length, drop, length-set}
-use Rattle.laws.specs.Splice.{part}
+use lib.ListN.{length-set}
 use Rattle.ir.proofs.CutLaws.{copy_more}
 use Rattle.ir.proofs.cut.copy.Goals as goal
 

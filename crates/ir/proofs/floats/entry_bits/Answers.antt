@@ -1,7 +1,6 @@
 -- An entry's bits and mark.
 -- A number's by what its bits are, a NaN's as they stand. Assumes nothing.
 use Rattle.ir.specs.Floats.{entry_of_float}
-use borrow.Author.Rules.{rules}
 use Rattle.ir.proofs.floats.entry_bits.Goals as goal
 
 pub returns-in-Number : goal.returns-in-Number

@@ -5,7 +5,6 @@ use mathlib.Core.Bool.{not}
 use denote.Floats.{passes}
 use Rattle.ir.specs.Floats.{entry_of_float}
 use Rattle.ir.proofs.FloatLaws.{bits_back}
-use borrow.Author.Rules.{rules}
 use Rattle.ir.proofs.floats.float_entry.Goals as goal
 
 pub returns-then-nan_bits : goal.returns-then-nan_bits

@@ -1,6 +1,5 @@
 -- The bits of an f64 that the code holds.
 -- A NaN differs from itself, and has no bits of its own here. Assumes nothing.
-use mathlib.Core.Path.{◌≡◌, sym}
 use lib.Ieee.{is_nan}
 use lib.Ieee.Compare.{differs_from_itself}
 use lib.Ieee.Bits.{is_false}

@@ -6,7 +6,6 @@ use native.Mathlib.Omega.{arith}
 use lib.ListN.{set}
 use Rattle.ir.specs.declared.structs.Counters.{Counters}
 use Rattle.ir.proofs.LentLaws.{ten, still, room-read, function-lent}
-use borrow.Author.Rules.{rules}
 use Rattle.ir.proofs.lent.add_function.Goals as goal
 
 pub counters_of-c-requires : goal.counters_of-c-requires

@@ -1,7 +1,6 @@
 -- The ten words as a struct.
 -- Each word as it was read. Assumes nothing.
 use Rattle.ir.proofs.LentLaws.{counted-are}
-use borrow.Author.Rules.{rules}
 use Rattle.ir.proofs.lent.counters_of.Goals as goal
 
 pub returns : goal.returns

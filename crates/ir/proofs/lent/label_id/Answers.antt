@@ -7,7 +7,6 @@ use Rattle.ir.specs.declared.structs.Counters.{Counters}
 use Rattle.ir.specs.Arena.{HasSlot}
 use Rattle.ir.specs.Steps.{named}
 use Rattle.ir.proofs.LentLaws.{ten, room-read, label_lent}
-use borrow.Author.Rules.{rules}
 use Rattle.ir.proofs.lent.label_id.Goals as goal
 
 pub counters_of-c-requires : goal.counters_of-c-requires

@@ -5,7 +5,6 @@ use Prim.Native.Nat.{◌*◌, ◌<◌}
 use native.Mathlib.Omega.{arith}
 use Rattle.ir.specs.declared.structs.Counters.{Counters}
 use Rattle.ir.proofs.LentLaws.{ten, room-read, var_lent}
-use borrow.Author.Rules.{rules}
 use Rattle.ir.proofs.lent.new_var.Goals as goal
 
 pub counters_of-c-requires : goal.counters_of-c-requires

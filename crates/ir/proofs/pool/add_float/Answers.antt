@@ -1,7 +1,6 @@
 -- A float more: its entry behind the others', its link, and the head of its bucket.
 -- The writes one after the other. Assumes nothing.
 use mathlib.Core.Path.{refl}
-use borrow.Author.Rules.{rules}
 use Rattle.ir.proofs.LinkWrites.{then_linked}
 use Rattle.ir.proofs.pool.add_float.Goals as goal
 

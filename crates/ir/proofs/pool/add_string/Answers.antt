@@ -1,7 +1,6 @@
 -- A string more: its place behind the others', the number of its text behind theirs, and its own number at the slot of that.
 -- The three writes one after the other. Assumes nothing.
 use mathlib.Core.Path.{refl}
-use borrow.Author.Rules.{rules}
 use Rattle.records.proofs.ChainedLaws.{two_writes}
 use Rattle.ir.proofs.pool.add_string.Goals as goal
 

@@ -2,7 +2,6 @@
 -- It is the definition's, and a remainder is below the divisor. Assumes nothing.
 use mathlib.Core.Path.{refl}
 use native.Mathlib.Nat.{mod-lt}
-use borrow.Author.Rules.{rules}
 use Rattle.ir.specs.Arena.{float_bucket}
 use Rattle.ir.proofs.pool.float_bucket.Goals as goal
 

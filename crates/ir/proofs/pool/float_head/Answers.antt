@@ -2,7 +2,6 @@
 -- By what stands at its head, and by the float under that number. Assumes nothing.
 use mathlib.Core.Path.{◌∙◌}
 use native.Mathlib.Omega.{arith}
-use borrow.Author.Rules.{rules}
 use Rattle.ir.proofs.EntryLinks.{head_beyond, head_other, head_own, words_bucket}
 use Rattle.ir.proofs.pool.float_head.Goals as goal
 

@@ -2,7 +2,6 @@
 -- What a walk through its bucket found, or a float more. Assumes nothing.
 use mathlib.Core.Path.{refl}
 use native.Mathlib.Omega.{arith}
-use borrow.Author.Rules.{rules}
 use Rattle.ir.proofs.Answers.{float_at, float_nowhere}
 use Rattle.ir.proofs.LinkLaws.{walk_below}
 use Rattle.ir.proofs.pool.float_id.Goals as goal

@@ -1,7 +1,6 @@
 -- Whether a string has a text of this number.
 -- Beyond the strings there is none, below their count the number beside the string tells. Assumes nothing.
 use mathlib.Core.Path.{◌∙◌}
-use borrow.Author.Rules.{rules}
 use Rattle.ir.proofs.StringLaws.{number_beyond, number-within}
 use Rattle.ir.proofs.pool.has_number.Goals as goal
 

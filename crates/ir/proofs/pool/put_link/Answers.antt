@@ -1,6 +1,5 @@
 -- A link and a head.
 -- The two writes one after the other. Assumes nothing.
-use borrow.Author.Rules.{rules}
 use Rattle.records.proofs.ChainedLaws.{two_writes}
 use Rattle.ir.proofs.pool.put_link.Goals as goal
 

@@ -2,7 +2,6 @@
 -- It is the one at the slot of the number, or a string more. Assumes nothing.
 use mathlib.Core.Path.{refl, sym, ◌∙◌}
 use native.Mathlib.Omega.{arith}
-use borrow.Author.Rules.{rules}
 use Rattle.ir.proofs.Answers.{string_at, string_nowhere}
 use Rattle.ir.proofs.pool.string_id.Goals as goal
 

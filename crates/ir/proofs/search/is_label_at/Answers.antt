@@ -1,7 +1,6 @@
 -- The words of an entry, compared one by one.
 -- By what `load` ensures of each. Assumes nothing.
 use Rattle.ir.specs.Search.{label_words_at}
-use borrow.Author.Rules.{rules}
 use Rattle.ir.proofs.search.is_label_at.Goals as goal
 
 pub returns : goal.returns

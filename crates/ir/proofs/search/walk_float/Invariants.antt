@@ -1,13 +1,9 @@
 -- The first entry that is these words, of those that a chain leads through.
 -- What is left of the walk gives what was asked. Assumes nothing.
-use mathlib.Core.Path.{refl, sym, ◌∙◌}
 use Prim.Native.Nat.{ℕ, ◌+◌, ◌*◌, ◌≤◌}
-use native.Mathlib.Omega.{arith}
-use borrow.Author.Rules.{rules}
 use Rattle.records.specs.Words.{word_at}
 use Rattle.records.specs.declared.words.Found.{Found}
 use Rattle.ir.specs.Search.{float_words_at, Walks}
-use Rattle.ir.proofs.LinkLaws.{walk_end, walk_here, walk_further, walk_astray}
 use Rattle.ir.proofs.search.walk_float.Given as goal
 
 abbrev pub invariant-loop-u : goal.invariant-loop-u

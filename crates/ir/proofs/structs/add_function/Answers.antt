@@ -1,6 +1,5 @@
 -- A function's entry, and the next function begins.
 -- From what the two `put_four` wrote. Assumes nothing.
-use borrow.Author.Rules.{rules}
 use native.Mathlib.Omega.{arith}
 use Rattle.ir.proofs.FunctionDone.{function-done}
 use Rattle.records.proofs.WordLaws.{put_eight}

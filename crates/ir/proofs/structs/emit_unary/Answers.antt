@@ -3,7 +3,6 @@
 use mathlib.Core.Path.{◌∙◌}
 use Rattle.conversion.specs.Written.{encode_instr, fields_of}
 use Rattle.ir.specs.Instructions.{one_bytes}
-use borrow.Author.Rules.{rules}
 use Rattle.ir.proofs.structs.emit_unary.Goals as goal
 
 pub returns : goal.returns

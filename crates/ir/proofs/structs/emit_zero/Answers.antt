@@ -2,7 +2,6 @@
 -- What `with_none` makes is how it is written. Assumes nothing.
 use Rattle.conversion.specs.Written.{encode_instr, fields_of}
 use Rattle.ir.specs.Instructions.{none_bytes}
-use borrow.Author.Rules.{rules}
 use Rattle.ir.proofs.structs.emit_zero.Goals as goal
 
 pub returns : goal.returns

@@ -1,7 +1,6 @@
 -- The eight words of an instruction are its 32 bytes.
 -- By the law of two runs, and the words of the fields. Assumes nothing.
 use Rattle.ir.proofs.FieldLaws.{put_fields}
-use borrow.Author.Rules.{rules}
 use Rattle.ir.proofs.structs.put_fields.Goals as goal
 
 pub returns : goal.returns

@@ -1,7 +1,6 @@
 -- An operand's tag, case by case.
 -- Each arm by what its match says of the operand. Assumes nothing.
 use Rattle.conversion.specs.Written.{tag, bool_number}
-use borrow.Author.Rules.{rules}
 use Rattle.ir.proofs.structs.tag_of.Goals as goal
 
 pub returns-in-Var : goal.returns-in-Var

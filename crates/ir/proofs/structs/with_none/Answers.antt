@@ -2,7 +2,6 @@
 -- By what each operand's part is. Assumes nothing.
 use Rattle.conversion.specs.Written.{tag_of, operand_word, word, wide, bytes_of, encode_fields}
 use Rattle.ir.specs.Instructions.{field_bytes, none_bytes, one_bytes, two_bytes}
-use borrow.Author.Rules.{rules}
 use Rattle.ir.proofs.structs.with_none.Goals as goal
 
 pub returns : goal.returns

@@ -1,15 +1,11 @@
 -- The leading types are entered one after the other. The invariant: none of those passed equals an earlier one.
 -- By what each step ensures and the law of what nothing is like; the measure is what is left of the types. Assumes nothing.
-use mathlib.Core.Path.{◌≡◌, refl, ◌∙◌}
-use mathlib.Core.Bool.{false, not, false≢true}
-use Prim.Native.Nat.{ℕ, ◌≤◌, ◌<◌, ◌-◌}
+use mathlib.Core.Path.{refl, ◌∙◌}
+use mathlib.Core.Bool.{false≢true}
 use native.Mathlib.Omega.{arith}
-use lib.ListN.{length}
 use borrow.Author.Count.{below_more}
-use Rattle.records.specs.Rules.{type_is_new}
 use Rattle.records.proofs.ChainedLaws.{chained-none}
 use Rattle.records.proofs.SampleLaws.{sampled-kept}
-use Rattle.judge.specs.Equal.{DigestsPassed}
 use Rattle.judge.proofs.EqualLaws.{unlike_new}
 use Rattle.judge.proofs.equal.are_apart.Goals as goal
 

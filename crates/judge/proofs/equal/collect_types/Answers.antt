@@ -1,10 +1,7 @@
 -- Each type is put into the entry of its number. The invariant: those passed are.
 -- By the law of one more; the measure is what is left of the types. Assumes nothing.
-use mathlib.Core.Path.{◌≡◌, refl, ◌∙◌}
-use Prim.Native.Nat.{◌≤◌, ◌-◌}
+use mathlib.Core.Path.{refl, ◌∙◌}
 use native.Mathlib.Omega.{arith}
-use lib.ListN.{length}
-use Rattle.judge.specs.Equal.{TypesListed}
 use Rattle.judge.proofs.EqualLaws.{listed_more, listed-long}
 use Rattle.judge.proofs.equal.collect_types.Goals as goal
 

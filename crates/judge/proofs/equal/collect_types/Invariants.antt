@@ -1,11 +1,9 @@
 -- Each type is put into the entry of its number. The invariant: those passed are.
 -- By the law of one more; the measure is what is left of the types. Assumes nothing.
-use mathlib.Core.Path.{◌≡◌, refl, ◌∙◌}
+use mathlib.Core.Path.{◌≡◌}
 use Prim.Native.Nat.{◌≤◌, ◌-◌}
-use native.Mathlib.Omega.{arith}
 use lib.ListN.{length}
 use Rattle.judge.specs.Equal.{TypesListed}
-use Rattle.judge.proofs.EqualLaws.{listed_more, listed-long}
 use Rattle.judge.proofs.equal.collect_types.Given as goal
 
 abbrev pub invariant-loop-r : goal.invariant-loop-r

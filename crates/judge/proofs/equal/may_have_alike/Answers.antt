@@ -4,10 +4,8 @@ use mathlib.Core.Path.{refl, sym, ◌∙◌}
 use mathlib.Core.Bool.{false≢true}
 use Prim.Native.Nat.{◌-◌}
 use native.Mathlib.Omega.{arith}
-use borrow.Author.Rules.{rules}
-use Rattle.laws.specs.Chain.{Met}
 use Rattle.laws.proofs.ChainLaws.{link_falls, walk_start, walk_on}
-use Rattle.judge.specs.Equal.{alike, type_bucket}
+use Rattle.judge.specs.Equal.{type_bucket}
 use Rattle.judge.proofs.EqualLaws.{together, like_none}
 use Rattle.judge.proofs.equal.may_have_alike.Goals as goal
 

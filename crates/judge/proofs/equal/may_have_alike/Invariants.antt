@@ -1,14 +1,7 @@
 -- A walk along the chain of type r's bucket, for so many entries at most. The invariant: no type from the place at hand on is like type r.
 -- By the laws of chains at the head, at each link and at the end; the measure is the place. Assumes nothing.
-use mathlib.Core.Path.{refl, sym, ◌∙◌}
-use mathlib.Core.Bool.{false≢true}
-use Prim.Native.Nat.{◌-◌}
-use native.Mathlib.Omega.{arith}
-use borrow.Author.Rules.{rules}
 use Rattle.laws.specs.Chain.{Met}
-use Rattle.laws.proofs.ChainLaws.{link_falls, walk_start, walk_on}
 use Rattle.judge.specs.Equal.{alike, type_bucket}
-use Rattle.judge.proofs.EqualLaws.{together, like_none}
 use Rattle.judge.proofs.equal.may_have_alike.Given as goal
 
 abbrev pub invariant-loop-at : goal.invariant-loop-at

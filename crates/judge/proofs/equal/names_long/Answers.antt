@@ -1,8 +1,6 @@
 -- The names' lengths are summed up. The invariant: no name has more bytes than a word says.
 -- The measure is what is left of the types. Assumes nothing.
-use Prim.Native.Nat.{◌*◌, ◌-◌, ◌≤◌}
 use native.Mathlib.Omega.{arith}
-use Rattle.records.specs.Words.{none}
 use Rattle.judge.proofs.equal.names_long.Goals as goal
 
 pub loop-r-init : goal.loop-r-init

@@ -2,7 +2,6 @@
 -- Each return is a case of the definition, over what the calls ensure. Assumes nothing.
 use Rattle.records.proofs.DigestLaws.{digest-is}
 use Rattle.judge.proofs.EqualLaws.{custom_told, words-told}
-use borrow.Author.Rules.{rules}
 use Rattle.judge.proofs.equal.type_digest.Goals as goal
 
 pub returns-then-d-eq-FORM_CUSTOM : goal.returns-then-d-eq-FORM_CUSTOM

@@ -1,6 +1,5 @@
 -- How deep a record is, by its kind and the deepest that it refers to.
 -- Each return is a case of the definition. Assumes nothing.
-use borrow.Author.Rules.{rules}
 use Rattle.judge.proofs.DepthLaws.{over-list, over-most, over-more}
 use Rattle.judge.proofs.nesting.depth_over.Goals as goal
 

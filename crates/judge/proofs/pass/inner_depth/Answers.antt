@@ -1,6 +1,5 @@
 -- How deep the type is that a first type refers to: 0 where its word A is 0, else what is known of the record.
 -- Each return is a case of the definition, over what `index` ensures. Assumes nothing.
-use borrow.Author.Rules.{rules}
 use borrow.Author.Tests.{eq-eqb, ne_eqb}
 use mathlib.Core.Path.{sym}
 use Rattle.laws.proofs.FixLaws.{pick_yes, pick_no}

@@ -1,6 +1,5 @@
 -- The lowest record that breaks a rule, and the lowest that is too deep.
 -- The three lowest faults are put together by `FaultLaws`. Assumes nothing.
-use borrow.Author.Rules.{rules}
 use mathlib.Core.Path.{refl, ◌∙◌}
 use native.Mathlib.Omega.{arith}
 use Rattle.judge.proofs.FaultLaws.{counts-told, lowest-equal, lowest-other, both_below, not-both}

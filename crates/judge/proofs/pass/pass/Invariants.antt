@@ -1,18 +1,12 @@
 -- All records are taken. The invariant: what is known and counted of the records passed, and the lowest of them that breaks a rule or is too deep.
 -- The measure is what is left of the records. Assumes nothing.
-use mathlib.Core.Path.{◌≡◌, refl, ap, ◌∙◌}
+use mathlib.Core.Path.{◌≡◌}
 use mathlib.Core.Bool.{not}
 use Prim.Native.Nat.{◌≤◌, ◌-◌}
-use native.Mathlib.Omega.{arith}
-use borrow.Author.Rules.{rules}
 use lib.Dec.{ltb}
 use lib.ListN.{length}
 use Rattle.records.specs.Depth.{depth}
 use Rattle.judge.specs.Inner.{LowestSoFar, KnownBelow, Counting, other_rules}
-use Rattle.judge.proofs.CountLaws.{known-none, counting-none}
-use Rattle.judge.proofs.DepthLaws.{deep-told}
-use Rattle.judge.proofs.FaultLaws.{lowest_start, lowest-all}
-use Rattle.judge.proofs.RowLaws.{records-told}
 use Rattle.judge.proofs.pass.pass.Given as goal
 
 abbrev pub invariant-loop-r : goal.invariant-loop-r

@@ -1,6 +1,5 @@
 -- A word that refers to nothing is judged by its role.
 -- Each arm is the definition's, over what the calls ensure. Assumes nothing.
-use borrow.Author.Rules.{rules}
 use Rattle.records.specs.Rules.{word_ok}
 use Rattle.judge.proofs.RoleCases.{plain_other}
 use Rattle.judge.proofs.pass.plain_ok.Goals as goal

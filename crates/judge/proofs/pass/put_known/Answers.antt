@@ -1,6 +1,5 @@
 -- The four bytes of a record are written.
 -- The stores are the definition's; each index lies below the length, which a store keeps. Assumes nothing.
-use borrow.Author.Rules.{rules}
 use native.Mathlib.Omega.{arith}
 use lib.ListN.{length-set}
 use Rattle.judge.proofs.pass.put_known.Goals as goal

@@ -1,6 +1,5 @@
 -- A record is taken: its words, its own tests, and its four bytes.
 -- Two laws over what the calls ensure. Assumes nothing.
-use borrow.Author.Rules.{rules}
 use native.Mathlib.Omega.{arith}
 use Rattle.judge.proofs.CountLaws.{row_told}
 use Rattle.judge.proofs.DepthLaws.{depth_small}

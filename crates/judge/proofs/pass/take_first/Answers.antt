@@ -5,7 +5,6 @@ use mathlib.Core.Path.{ap}
 use native.Mathlib.Omega.{arith}
 use Rattle.judge.proofs.FirstLaws.{first-right, inner-low, inner-shallow, first-took}
 use Rattle.judge.proofs.PlainTaken.{plain_left}
-use borrow.Author.Rules.{rules}
 use Rattle.judge.proofs.pass.take_first.Goals as goal
 
 pub returns-then-not-zero-text : goal.returns-then-not-zero-text

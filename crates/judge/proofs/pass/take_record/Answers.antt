@@ -2,7 +2,6 @@
 -- By which of the three took it. Assumes nothing.
 use native.Mathlib.Omega.{arith}
 use Rattle.judge.proofs.PlainTaken.{plain_record, took-after}
-use borrow.Author.Rules.{rules}
 use Rattle.judge.proofs.pass.take_record.Goals as goal
 
 pub take_first-first-requires : goal.take_first-first-requires

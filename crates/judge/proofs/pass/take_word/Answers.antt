@@ -1,6 +1,5 @@
 -- A word is taken: counted where it refers, and else judged where it stands.
 -- By the one test, whether its role refers. Assumes nothing.
-use borrow.Author.Rules.{rules}
 use mathlib.Core.Path.{sym, ◌∙◌}
 use Rattle.judge.proofs.TakeLaws.{took_plain}
 use Rattle.judge.proofs.pass.take_word.Goals as goal

@@ -1,6 +1,5 @@
 -- The five words of a record are taken, one after the other.
 -- Where three are unused they are compared with zero, which taking them would do too. Assumes nothing.
-use borrow.Author.Rules.{rules}
 use mathlib.Core.Path.{◌∙◌}
 use Rattle.judge.proofs.RoleCases.{all_unused}
 use Rattle.judge.proofs.TakeLaws.{took-next, took-words, took_two}

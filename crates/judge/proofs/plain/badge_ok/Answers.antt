@@ -1,6 +1,5 @@
 -- A record is one that a word may refer to, by its badge.
 -- What the calls ensure. Assumes nothing.
-use borrow.Author.Rules.{rules}
 use mathlib.Core.Path.{refl}
 use Rattle.judge.proofs.plain.badge_ok.Goals as goal
 

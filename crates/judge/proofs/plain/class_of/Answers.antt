@@ -3,7 +3,6 @@
 use native.Mathlib.Omega.{arith}
 use Rattle.judge.proofs.ListClass.{class_plain}
 use Rattle.judge.proofs.PlainClass.{slot_mixed, slot_same}
-use borrow.Author.Rules.{rules}
 use Rattle.judge.proofs.plain.class_of.Goals as goal
 
 pub returns-then-k-ne-KIND_LIST : goal.returns-then-k-ne-KIND_LIST

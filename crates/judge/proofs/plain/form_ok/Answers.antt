@@ -1,6 +1,5 @@
 -- What a record must be aside from what it refers to.
 -- Each test that was passed is a field. Assumes nothing.
-use borrow.Author.Rules.{rules}
 use Prim.Native.Nat.{◌+◌, ◌*◌}
 use lib.ListN.{get_or}
 use mathlib.Core.Path.{◌≡◌, refl, sym, ◌∙◌}

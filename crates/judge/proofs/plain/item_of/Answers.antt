@@ -2,7 +2,6 @@
 -- Each return is a case of `PlainClass`. Assumes nothing.
 use native.Mathlib.Omega.{arith}
 use Rattle.judge.proofs.PlainClass.{item-high, variable_untyped, variable-typed, item-table}
-use borrow.Author.Rules.{rules}
 use Rattle.judge.proofs.plain.item_of.Goals as goal
 
 pub returns-then-k-gt-KIND_FUNCTION : goal.returns-then-k-gt-KIND_FUNCTION

@@ -1,6 +1,5 @@
 -- The slot that a word leads to.
 -- What the call ensures. Assumes nothing.
-use borrow.Author.Rules.{rules}
 use mathlib.Core.Path.{refl, ◌∙◌}
 use native.Mathlib.Omega.{arith}
 use Rattle.judge.proofs.plain.place_of.Goals as goal

@@ -1,6 +1,5 @@
 -- A slot is one that a word may lead to.
 -- What the calls ensure. Assumes nothing.
-use borrow.Author.Rules.{rules}
 use mathlib.Core.Path.{refl}
 use Rattle.judge.proofs.plain.place_ok.Goals as goal
 

@@ -1,6 +1,5 @@
 -- Slot 0 is written.
 -- By a law of four stores. Assumes nothing.
-use borrow.Author.Rules.{rules}
 use native.Mathlib.Omega.{arith}
 use lib.ListN.{length-set}
 use Rattle.judge.proofs.PlainLaws.{owned}

@@ -3,7 +3,6 @@
 use mathlib.Core.Path.{ap}
 use mathlib.Core.Bool.{◌&&◌, not}
 use Rattle.judge.proofs.PlainTaken.{plain_left, slots-ready, plain_took}
-use borrow.Author.Rules.{rules}
 use Rattle.judge.proofs.plain.take_plain.Goals as goal
 
 pub returns-then-not-form-placed : goal.returns-then-not-form-placed

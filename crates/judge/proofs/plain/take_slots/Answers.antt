@@ -4,7 +4,6 @@ use mathlib.Core.Path.{ap}
 use mathlib.Core.Bool.{◌&&◌, not}
 use Rattle.judge.proofs.PlainTaken.{shallow, slots-left, third_room, slots-room, slots-cells, slots_length, slots-took}
 use native.Mathlib.Numerals.{unary_clauses}
-use borrow.Author.Rules.{rules}
 use Rattle.judge.proofs.plain.take_slots.Goals as goal
 
 pub returns-then-not-badges-below : goal.returns-then-not-badges-below

@@ -1,12 +1,9 @@
 -- Whether a record is miscounted by its bytes. The loop's invariant: whether one of the records passed is.
 -- The measure is what is left of the records; each byte of a slot is below 256. Assumes nothing.
 use Prim.Native.Nat.{◌≤◌, ◌-◌}
-use mathlib.Core.Path.{◌≡◌, refl}
-use native.Mathlib.Omega.{arith}
-use borrow.Author.Rules.{rules}
+use mathlib.Core.Path.{◌≡◌}
 use Rattle.laws.specs.Below.{any_below}
 use Rattle.judge.specs.Inner.{miscounted_in}
-use Rattle.judge.proofs.FaultLaws.{miscounted_more}
 use Rattle.judge.proofs.references.some_miscounted.Given as goal
 
 abbrev pub invariant-loop-r : goal.invariant-loop-r

@@ -1,6 +1,5 @@
 -- A word that refers is judged by the badge of what it refers to, and counted.
 -- Each way through the code is a case of `TakeLaws` and `CountLaws`. Assumes nothing.
-use borrow.Author.Rules.{rules}
 use Rattle.judge.proofs.CountLaws.{word_full, word_more}
 use Rattle.judge.proofs.TakeLaws.{took-out, took_in}
 use native.Mathlib.Omega.{arith}

@@ -1,6 +1,5 @@
 -- What the list holds that begins at a cell.
 -- Each return is a case of the definition. Assumes nothing.
-use borrow.Author.Rules.{rules}
 use Rattle.judge.proofs.ListClass.{cell_out, cell-last, cell_mixed, cell_same}
 use Rattle.judge.proofs.rules.cell_class.Goals as goal
 

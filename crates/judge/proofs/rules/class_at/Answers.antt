@@ -1,6 +1,5 @@
 -- What the list holds that begins at a record, 0 where it is no cell.
 -- Each return is a case of the definition. Assumes nothing.
-use borrow.Author.Rules.{rules}
 use Rattle.judge.proofs.ListClass.{class_cell, class_plain}
 use Rattle.judge.proofs.rules.class_at.Goals as goal
 

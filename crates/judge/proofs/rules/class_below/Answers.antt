@@ -1,6 +1,5 @@
 -- What a lower list holds, else 0.
 -- Each return is a case of the definition. Assumes nothing.
-use borrow.Author.Rules.{rules}
 use Rattle.judge.proofs.ListClass.{class_lower, class_none}
 use Rattle.judge.proofs.rules.class_below.Goals as goal
 

@@ -1,6 +1,5 @@
 -- Which list a record may stand in, by its kind.
 -- Each return is a case of the definition. Assumes nothing.
-use borrow.Author.Rules.{rules}
 use Rattle.judge.proofs.ListClass.{item_argument, item_statement, item-none, item_untyped, item-typed}
 use Rattle.judge.proofs.rules.item_class.Goals as goal
 

@@ -1,6 +1,5 @@
 -- A record past the twelve passes; one of the twelve is held to its row of both tables.
 -- Each return is a case of the definition, over what the calls ensure. Assumes nothing.
-use borrow.Author.Rules.{rules}
 use Rattle.records.proofs.TypeLaws.{first_past, first_twelve}
 use Rattle.judge.proofs.types.is_first_type.Goals as goal
 

@@ -3,7 +3,6 @@
 use mathlib.Core.Path.{sym, ◌∙◌}
 use Rattle.records.proofs.TypeLaws.{type_detail, type-words}
 use Rattle.judge.proofs.EqualLaws.{not_custom}
-use borrow.Author.Rules.{rules}
 use Rattle.judge.proofs.types.same_words.Goals as goal
 
 pub returns-then-detail : goal.returns-then-detail

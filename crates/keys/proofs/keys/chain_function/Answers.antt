@@ -2,7 +2,6 @@
 -- By the laws of the chains, over what the calls ensure. Assumes nothing.
 use mathlib.Core.Path.{sym, ◌∙◌}
 use Rattle.keys.proofs.ChainLaws.{keeps_then, passed_plain}
-use borrow.Author.Rules.{rules}
 use Rattle.keys.proofs.keys.chain_function.Goals as goal
 
 pub chain_name-requires : goal.chain_name-requires

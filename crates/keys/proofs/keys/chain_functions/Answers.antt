@@ -1,10 +1,8 @@
 -- The functions in chains, one of the list after the other. The invariant: those before the place at hand are chained, and no other bytes written.
 -- By the laws of the heads that are cleared and of all functions passed; the measure is what is left of the list. Assumes nothing.
 use mathlib.Core.Path.{◌∙◌}
-use Prim.Native.Nat.{◌≤◌, ◌-◌}
 use native.Mathlib.Omega.{arith}
-use borrow.Author.Rules.{rules}
-use Rattle.keys.proofs.ChainLaws.{Passing, keeps_then, keeps_heads, chaining_none, passing_none, chained-below, passing_more, all-chained}
+use Rattle.keys.proofs.ChainLaws.{keeps_then, keeps_heads, chaining_none, passing_none, chained-below, passing_more, all-chained}
 use Rattle.keys.proofs.keys.chain_functions.Goals as goal
 
 pub loop-j-init : goal.loop-j-init

@@ -5,7 +5,6 @@ use native.Mathlib.Omega.{arith}
 use Rattle.records.specs.Chains.{bucket_of}
 use Rattle.keys.proofs.ChainLaws.{keeps_key, chained_key}
 use Rattle.keys.proofs.SlotLaws.{digest-inside, digest-read}
-use borrow.Author.Rules.{rules}
 use Rattle.keys.proofs.keys.chain_key.Goals as goal
 
 pub kept_digest-d-requires : goal.kept_digest-d-requires

@@ -2,7 +2,6 @@
 -- By the laws of a chain with one function more. Assumes nothing.
 use native.Mathlib.Omega.{arith}
 use Rattle.keys.proofs.ChainLaws.{name-inside, name-number, keeps_name, chained-name}
-use borrow.Author.Rules.{rules}
 use Rattle.keys.proofs.keys.chain_name.Goals as goal
 
 pub original-name-requires : goal.original-name-requires

@@ -1,7 +1,6 @@
 -- The slots of the keys become zero.
 -- By what the clearing of a run ensures. Assumes nothing.
 use Rattle.keys.proofs.SlotLaws.{cleared-keys}
-use borrow.Author.Rules.{rules}
 use Rattle.keys.proofs.keys.clear_keys.Goals as goal
 
 pub returns : goal.returns

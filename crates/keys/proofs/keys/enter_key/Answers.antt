@@ -1,7 +1,6 @@
 -- The slot of the key's number gets one more than the function's record.
 -- By what the writing of a word ensures. Assumes nothing.
 use Rattle.keys.proofs.SlotLaws.{entered_at}
-use borrow.Author.Rules.{rules}
 use Rattle.keys.proofs.keys.enter_key.Goals as goal
 
 pub returns : goal.returns

@@ -1,8 +1,6 @@
 -- What the slot of a number says: 0, or one more than a function's record.
 -- By the laws of a slot. Assumes nothing.
 use mathlib.Core.Path.{◌∙◌}
-use native.Mathlib.Omega.{arith}
-use borrow.Author.Rules.{rules}
 use Rattle.keys.proofs.SlotLaws.{slot-free, slot-taken}
 use Rattle.keys.proofs.keys.find_key.Goals as goal
 

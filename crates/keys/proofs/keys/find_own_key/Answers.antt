@@ -1,7 +1,6 @@
 -- What the slot of the key's number says.
 -- By the laws of a slot. Assumes nothing.
 use Rattle.keys.proofs.SlotLaws.{own-found}
-use borrow.Author.Rules.{rules}
 use Rattle.keys.proofs.keys.find_own_key.Goals as goal
 
 pub returns : goal.returns

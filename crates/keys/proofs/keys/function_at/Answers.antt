@@ -2,7 +2,6 @@
 -- By what the scratch lists. Assumes nothing.
 use native.Mathlib.Omega.{arith}
 use Rattle.keys.proofs.KeySearch.{listed-room, listed_at}
-use borrow.Author.Rules.{rules}
 use Rattle.keys.proofs.keys.function_at.Goals as goal
 
 pub overflow_mul-j : goal.overflow_mul-j

@@ -1,7 +1,6 @@
 -- A mark of a function: whether it is external.
 -- By the law of the bit in its detail. Assumes nothing.
 use Rattle.keys.proofs.KeySearch.{external-read}
-use borrow.Author.Rules.{rules}
 use Rattle.keys.proofs.keys.is_external.Goals as goal
 
 pub returns : goal.returns

@@ -1,7 +1,6 @@
 -- Whether a function is neither external nor `main`.
 -- By what its mark and its name ensure. Assumes nothing.
 use Rattle.keys.proofs.KeySearch.{external_plain, mangled_by_name}
-use borrow.Author.Rules.{rules}
 use Rattle.keys.proofs.keys.is_mangled.Goals as goal
 
 pub returns-then-is_external : goal.returns-then-is_external

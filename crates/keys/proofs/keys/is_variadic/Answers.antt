@@ -1,7 +1,6 @@
 -- A mark of a function: whether it is variadic.
 -- By the law of the bit in its detail. Assumes nothing.
 use Rattle.keys.proofs.KeySearch.{variadic-read}
-use borrow.Author.Rules.{rules}
 use Rattle.keys.proofs.keys.is_variadic.Goals as goal
 
 pub returns : goal.returns

@@ -2,7 +2,6 @@
 -- By what the calls ensure. Assumes nothing.
 use mathlib.Core.Path.{◌∙◌}
 use Rattle.keys.proofs.ChainLaws.{head_read}
-use borrow.Author.Rules.{rules}
 use Rattle.keys.proofs.keys.key_head.Goals as goal
 
 pub returns : goal.returns

@@ -1,7 +1,6 @@
 -- The number that stands at the slot of the key's record.
 -- By the laws of a key's record. Assumes nothing.
 use Rattle.keys.proofs.SlotLaws.{number-inside, number_read}
-use borrow.Author.Rules.{rules}
 use Rattle.keys.proofs.keys.key_number.Goals as goal
 
 pub original-requires : goal.original-requires

@@ -1,7 +1,6 @@
 -- The key of a function.
 -- By what `is_mangled` and its names ensure. Assumes nothing.
 use Rattle.keys.proofs.KeySearch.{key_mangled, key_plain}
-use borrow.Author.Rules.{rules}
 use Rattle.keys.proofs.keys.key_of.Goals as goal
 
 pub returns-then-is_mangled : goal.returns-then-is_mangled

@@ -1,7 +1,6 @@
 -- The record of the mangled name, or of the name.
 -- By what `is_mangled` ensures. Assumes nothing.
 use Rattle.keys.proofs.SlotLaws.{record_mangled, record_plain}
-use borrow.Author.Rules.{rules}
 use Rattle.keys.proofs.keys.key_record.Goals as goal
 
 pub returns-then-is_mangled : goal.returns-then-is_mangled

@@ -3,7 +3,6 @@
 use native.Mathlib.Omega.{arith}
 use Rattle.keys.proofs.FunctionLaws.{mangled_inside}
 use Rattle.keys.proofs.KeySearch.{mangled_read}
-use borrow.Author.Rules.{rules}
 use Rattle.keys.proofs.keys.mangled_name_of.Goals as goal
 
 pub text_part-requires : goal.text_part-requires

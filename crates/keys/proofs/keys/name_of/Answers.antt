@@ -3,7 +3,6 @@
 use native.Mathlib.Omega.{arith}
 use Rattle.keys.proofs.FunctionLaws.{name-inside}
 use Rattle.keys.proofs.KeySearch.{name-read}
-use borrow.Author.Rules.{rules}
 use Rattle.keys.proofs.keys.name_of.Goals as goal
 
 pub text_part-requires : goal.text_part-requires

@@ -1,7 +1,6 @@
 -- The first cell of a function's parameters.
 -- By the law of the list that its word opens. Assumes nothing.
 use Rattle.keys.proofs.KeySearch.{params-read}
-use borrow.Author.Rules.{rules}
 use Rattle.keys.proofs.keys.parameters_of.Goals as goal
 
 pub returns : goal.returns

@@ -1,7 +1,6 @@
 -- What the head said goes to the link, and the next to the head.
 -- By what the writing of a word ensures. Assumes nothing.
 use Rattle.keys.proofs.ChainLaws.{chained_so}
-use borrow.Author.Rules.{rules}
 use Rattle.keys.proofs.keys.put_before.Goals as goal
 
 pub returns : goal.returns

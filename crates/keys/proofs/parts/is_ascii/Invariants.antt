@@ -1,10 +1,7 @@
 -- The loops say what `is_ascii` says of a part: what was asked equals what is left from the byte at hand on.
 -- The laws of parts at each turn, at a block or a byte that is not Latin and at the end. Assumes nothing.
 use Prim.Native.Nat.{◌≤◌, ◌-◌}
-use native.Mathlib.Omega.{arith}
-use borrow.Author.Tests.{not-true, not-false}
-use Rattle.keys.specs.Parts.{ascii_block}
-use Rattle.keys.proofs.PartLaws.{Latin, latin_start, latin_end, byte_more, byte-other, block_more, block_other}
+use Rattle.keys.proofs.PartLaws.{Latin}
 use Rattle.keys.proofs.parts.is_ascii.Given as goal
 
 abbrev pub invariant-loop-i : goal.invariant-loop-i

@@ -1,10 +1,7 @@
 -- The loop says what `is_ascii` says of a block. The invariant: it says so of the bytes before the one at hand.
 -- The laws of a block's first bytes, one more at each turn. Assumes nothing.
 use mathlib.Core.Path.{◌≡◌}
-use Prim.Native.Nat.{◌≤◌, ◌-◌}
 use native.Mathlib.Omega.{arith}
-use Rattle.records.specs.Words.{text_at}
-use Rattle.conversion.specs.Functions.{is_ascii}
 use Rattle.keys.specs.Parts.{ascii_block}
 use Rattle.keys.proofs.PartLaws.{first-none, first_more}
 use Rattle.keys.proofs.parts.is_ascii_block.Goals as goal

@@ -2,11 +2,9 @@
 -- The laws of a block's first bytes, one more at each turn. Assumes nothing.
 use mathlib.Core.Path.{◌≡◌}
 use Prim.Native.Nat.{◌≤◌, ◌-◌}
-use native.Mathlib.Omega.{arith}
 use Rattle.records.specs.Words.{text_at}
 use Rattle.conversion.specs.Functions.{is_ascii}
 use Rattle.keys.specs.Parts.{ascii_block}
-use Rattle.keys.proofs.PartLaws.{first-none, first_more}
 use Rattle.keys.proofs.parts.is_ascii_block.Given as goal
 
 abbrev pub invariant-loop-i : goal.invariant-loop-i

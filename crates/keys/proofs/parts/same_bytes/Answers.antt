@@ -1,6 +1,5 @@
 -- A part against bytes: by their lengths, and else byte by byte.
 -- From what `same_run` ensures of the bytes as a whole. Assumes nothing.
-use native.Mathlib.Omega.{arith}
 use Rattle.keys.proofs.PartLaws.{other-bytes, whole-bytes}
 use Rattle.keys.proofs.parts.same_bytes.Goals as goal
 

@@ -1,10 +1,7 @@
 -- A run of bytes becomes zero. The invariant: those passed are zero, the others as they were, and the slice is as long.
 -- The measure is what is left. Assumes nothing.
-use mathlib.Core.Path.{refl}
 use Prim.Native.Nat.{◌≤◌, ◌-◌}
-use native.Mathlib.Omega.{arith}
 use Rattle.records.specs.Chains.{Cleared}
-use Rattle.records.proofs.ChainedLaws.{cleared_more, cleared-whole}
 use Rattle.records.proofs.chains.clear_run.Given as goal
 
 abbrev pub invariant-loop-i : goal.invariant-loop-i

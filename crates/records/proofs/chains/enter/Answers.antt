@@ -1,7 +1,6 @@
 -- Number r's entry and then the head of its bucket are written.
 -- From what the two writes ensure. Assumes nothing.
 use Rattle.records.proofs.ChainedLaws.{two_writes}
-use borrow.Author.Rules.{rules}
 use Rattle.records.proofs.chains.enter.Goals as goal
 
 pub returns : goal.returns

@@ -1,7 +1,6 @@
 -- The number of each kind is the one that its definition gives, by the case that the match met. Assumes nothing.
 use mathlib.Core.Path.{sym, ap}
 use Rattle.records.specs.Answer.{number_of}
-use borrow.Author.Rules.{rules}
 use Rattle.records.proofs.convert_error.number.Goals as goal
 
 pub returns-in-SameSignature : goal.returns-in-SameSignature

@@ -3,7 +3,6 @@ use mathlib.Core.Path.{refl}
 use borrow.Author.Tests.{lt-ltb, le-ltb}
 use Rattle.laws.specs.Fix.{pick}
 use Rattle.records.specs.Answer.{has_span, span_word}
-use borrow.Author.Rules.{rules}
 use Rattle.records.proofs.convert_error.span_word.Goals as goal
 
 pub returns-then-r-tree : goal.returns-then-r-tree

@@ -1,6 +1,5 @@
 -- The four words of a refusal, from what `number` and `span_word` ensure. Assumes nothing.
-use Rattle.records.specs.Answer.{number_of, span_word, words_of}
-use borrow.Author.Rules.{rules}
+use Rattle.records.specs.Answer.{words_of}
 use Rattle.records.proofs.convert_error.words_of.Goals as goal
 
 pub returns : goal.returns

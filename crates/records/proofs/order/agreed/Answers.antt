@@ -2,7 +2,6 @@
 -- By the laws of two texts, over what the calls ensure. Assumes nothing.
 use native.Mathlib.Omega.{arith}
 use Rattle.records.proofs.RunLaws.{common-least_of, least-inside, first_fits_lem, common-fits, agrees, agrees_whole}
-use borrow.Author.Rules.{rules}
 use Rattle.records.proofs.order.agreed.Goals as goal
 
 pub overflow_cast-result : goal.overflow_cast-result

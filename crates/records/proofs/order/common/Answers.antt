@@ -1,9 +1,7 @@
 -- How far two parts of a buffer agree, eight eights at a time, and the rest by eights. The invariant: they agree so far.
 -- The law of parts at a run more. Assumes nothing.
-use Prim.Native.Nat.{◌≤◌, ◌-◌}
 use native.Mathlib.Omega.{arith}
-use borrow.Author.Tests.{not-true, not-false}
-use Rattle.records.proofs.RunLaws.{Common, common-below, common-part}
+use Rattle.records.proofs.RunLaws.{common-below, common-part}
 use Rattle.records.proofs.order.common.Goals as goal
 
 pub loop-k-init : goal.loop-k-init

@@ -1,9 +1,7 @@
 -- How far two parts of a buffer agree, eight bytes at a time, and the rest singly. The invariant: they agree so far.
 -- The law of parts at a run more. Assumes nothing.
 use Prim.Native.Nat.{◌≤◌, ◌-◌}
-use native.Mathlib.Omega.{arith}
-use borrow.Author.Tests.{not-true, not-false}
-use Rattle.records.proofs.RunLaws.{Common, common-below, common-part}
+use Rattle.records.proofs.RunLaws.{Common}
 use Rattle.records.proofs.order.common_eights.Given as goal
 
 abbrev pub invariant-loop-k : goal.invariant-loop-k

@@ -1,8 +1,7 @@
 -- How far two parts of a buffer agree, byte by byte. The invariant: they agree so far.
 -- The laws of parts at a byte more, at one that differs, and at the end. Assumes nothing.
-use Prim.Native.Nat.{◌≤◌, ◌-◌}
 use native.Mathlib.Omega.{arith}
-use Rattle.records.proofs.RunLaws.{Common, common-more, common-stop, common_end}
+use Rattle.records.proofs.RunLaws.{common-more, common-stop, common_end}
 use Rattle.records.proofs.order.common_singly.Goals as goal
 
 pub loop-k-init : goal.loop-k-init

@@ -3,10 +3,7 @@
 use mathlib.Core.Path.{◌∙◌}
 use Prim.Native.Nat.{ℕ, ◌-◌}
 use native.Mathlib.Omega.{arith}
-use borrow.Author.Rules.{rules}
-use Rattle.records.specs.Order.{record_text}
-use Rattle.records.proofs.LinkedLaws.{steps-left}
-use Rattle.records.proofs.WalkLaws.{Walk, walk_start, walk_here, walk_end, here-below, here-inside, stops, agrees_from, walk_found, walk_compared, walk_past, walk_less}
+use Rattle.records.proofs.WalkLaws.{walk_start, walk_here, walk_end, here-below, here-inside, stops, agrees_from, walk_found, walk_compared, walk_past, walk_less}
 use Rattle.records.proofs.order.find_place.Goals.{else-before-shared-2, then-before-shared-2+else-a}
 use Rattle.records.proofs.order.find_place.Goals as goal
 

@@ -1,13 +1,8 @@
 -- The walk along a chain to a record's place. The invariant: from where it stands the place is the one that is looked for.
 -- By the laws of the walk, over what the words and the comparison tell. Assumes nothing.
-use mathlib.Core.Path.{◌∙◌}
-use mathlib.Core.Logic.{⊎_elim}
-use Prim.Native.Nat.{ℕ, ◌-◌}
-use native.Mathlib.Omega.{arith}
-use borrow.Author.Rules.{rules}
 use Rattle.records.specs.Order.{record_text}
 use Rattle.records.proofs.LinkedLaws.{steps-left}
-use Rattle.records.proofs.WalkLaws.{Walk, walk_start, walk_here, walk_end, here-below, here-inside, stops, agrees_from, walk_found, walk_compared, walk_past, walk_less}
+use Rattle.records.proofs.WalkLaws.{Walk}
 use Rattle.records.proofs.order.find_place.Given as goal
 
 abbrev pub invariant-loop-link : goal.invariant-loop-link

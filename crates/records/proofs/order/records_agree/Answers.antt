@@ -1,7 +1,6 @@
 -- The texts of two records compared by their words A and B.
 -- From what the words and the comparison ensure. Assumes nothing.
 use Rattle.records.proofs.RunLaws.{from_told, agrees_told}
-use borrow.Author.Rules.{rules}
 use Rattle.records.proofs.order.records_agree.Goals as goal
 
 pub agreed-requires : goal.agreed-requires

@@ -1,7 +1,6 @@
 -- From one sample to another, by the three words that are read.
 -- From what `load` and `roll_across` ensure. Assumes nothing.
 use Rattle.records.proofs.SampleLaws.{between-told}
-use borrow.Author.Rules.{rules}
 use Rattle.records.proofs.samples.roll_between.Goals as goal
 
 pub returns : goal.returns

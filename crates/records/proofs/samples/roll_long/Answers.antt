@@ -3,7 +3,6 @@
 use native.Mathlib.Nat.{div-le_self}
 use native.Mathlib.Omega.{arith}
 use Rattle.records.proofs.SampleLaws.{first-behind, first_near, last-before, in_order, first_small, last-room, long-told}
-use borrow.Author.Rules.{rules}
 use Rattle.records.proofs.samples.roll_long.Goals as goal
 
 pub overflow_add-first : goal.overflow_add-first

@@ -1,10 +1,8 @@
 -- The power of n bytes, byte by byte. The invariant: the power of the bytes passed.
 -- One step of the definition at each turn; the measure is what is left. Assumes nothing.
-use mathlib.Core.Path.{◌≡◌, refl}
+use mathlib.Core.Path.{◌≡◌}
 use Prim.Native.Nat.{◌-◌, ◌≤◌, ◌<◌}
-use native.Mathlib.Omega.{arith}
 use Rattle.records.specs.Samples.{roll_power}
-use Rattle.records.proofs.SampleLaws.{power_one}
 use Rattle.records.proofs.samples.roll_power.Given as goal
 
 abbrev pub invariant-loop-i : goal.invariant-loop-i

@@ -1,11 +1,7 @@
 -- A sample for each whole stride, one after the other. The invariant: the samples passed are written, and digest and power are those of the next.
 -- By the laws of samples at each turn; the measure is what is left of the text. Assumes nothing.
-use mathlib.Core.Path.{◌≡◌}
-use Prim.Native.Nat.{◌-◌, ◌<◌}
 use native.Mathlib.Omega.{arith}
-use lib.ListN.{length}
-use Rattle.records.proofs.SampleLaws.{Sampling, samples_none, sampling_none, sample_fits, digest-small, filled_more, filled-all, sampling_more}
-use borrow.Author.Rules.{rules}
+use Rattle.records.proofs.SampleLaws.{samples_none, sampling_none, sample_fits, digest-small, filled_more, filled-all, sampling_more}
 use Rattle.records.proofs.samples.sample.Goals as goal
 
 pub returns-then-stride-eq0 : goal.returns-then-stride-eq0

@@ -3,7 +3,6 @@
 use native.Mathlib.Omega.{arith}
 use Rattle.records.proofs.TextLaws.{text-inside}
 use Rattle.records.proofs.DigestLaws.{roll_taken}
-use borrow.Author.Rules.{rules}
 use Rattle.records.proofs.samples.sampled_roll.Goals as goal
 
 pub roll_long-requires : goal.roll_long-requires

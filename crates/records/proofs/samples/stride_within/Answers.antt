@@ -4,7 +4,6 @@ use Prim.Native.Nat.{◌/◌}
 use native.Mathlib.Nat.{div-le_self}
 use native.Mathlib.Omega.{arith}
 use Rattle.records.proofs.SampleLaws.{stride_room}
-use borrow.Author.Rules.{rules}
 use Rattle.records.proofs.samples.stride_within.Goals as goal
 
 pub overflow_add-result : goal.overflow_add-result

@@ -1,7 +1,6 @@
 -- The row of a shape.
 -- The packed row is taken apart digit by digit; `assembled` puts the parts together. Assumes nothing.
 use Rattle.records.proofs.ShapeTable.{assembled}
-use borrow.Author.Rules.{rules}
 use Rattle.records.proofs.shape.row_of.Goals as goal
 
 pub returns : goal.returns

@@ -1,6 +1,5 @@
 -- The row of a kind and a detail: each return is a case of the definition. Assumes nothing.
 use Rattle.records.proofs.ShapeCases.{shape_type, shape_kind, shape_unknown}
-use borrow.Author.Rules.{rules}
 use Rattle.records.proofs.shape.shape_of.Goals as goal
 
 pub returns-then-kind-eq-KIND_TYPE : goal.returns-then-kind-eq-KIND_TYPE

@@ -1,6 +1,5 @@
 -- The row of a type by its detail: each return is a case of the definition. Assumes nothing.
 use Rattle.records.proofs.ShapeCases.{type_plain, type_address, type_array, type_custom, type_unknown}
-use borrow.Author.Rules.{rules}
 use Rattle.records.proofs.shape.type_shape.Goals as goal
 
 pub returns-then-plain_type : goal.returns-then-plain_type

@@ -2,7 +2,6 @@
 -- By the definition. Assumes nothing.
 use mathlib.Core.Path.{refl}
 use Rattle.records.specs.Digest.{digest_end}
-use borrow.Author.Rules.{rules}
 use Rattle.records.proofs.texts.digest_end.Goals as goal
 
 pub returns : goal.returns

@@ -3,7 +3,6 @@
 use native.Mathlib.Omega.{arith}
 use Rattle.records.specs.Words.{byte_at}
 use Rattle.records.specs.Digest.{high_first}
-use borrow.Author.Rules.{rules}
 use Rattle.records.proofs.texts.high_first.Goals as goal
 
 pub returns : goal.returns

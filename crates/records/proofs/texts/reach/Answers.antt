@@ -1,7 +1,6 @@
 -- A text's length: none of its bytes lie past the buffer's end.
 -- The length of `take` and `drop`, by the two tests. Assumes nothing.
 use Rattle.records.proofs.TextLaws.{reach_none, reach_whole, reach_end}
-use borrow.Author.Rules.{rules}
 use Rattle.records.proofs.texts.reach.Goals as goal
 
 pub returns-then-offset-all : goal.returns-then-offset-all

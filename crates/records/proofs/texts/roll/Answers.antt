@@ -1,9 +1,7 @@
 -- From a digest on over a run of bytes. The invariant: what was asked is what is left from the place at hand on.
 -- By the laws of that digest at each step; the measures are what is left of the bytes. Assumes nothing.
-use Prim.Native.Nat.{◌-◌}
 use native.Mathlib.Omega.{arith}
 use mathlib.Core.Path.{refl}
-use borrow.Author.Rules.{rules}
 use Rattle.records.proofs.RollLaws.{RollLeft, roll_met, roll_start, roll_on, roll_one, roll_end}
 use Rattle.records.proofs.texts.roll.Goals.{else-n-i-ge-MIDDLE_STEP, else-n-i-ge-SHORT_STEP, then-n-i-ge-MIDDLE_STEP, then-n-i-ge-SHORT_STEP}
 use Rattle.records.proofs.texts.roll.Goals as goal

@@ -2,7 +2,6 @@
 -- By the definition. Assumes nothing.
 use mathlib.Core.Path.{refl}
 use Rattle.records.proofs.RollLaws.{step_is}
-use borrow.Author.Rules.{rules}
 use Rattle.records.proofs.texts.roll_byte.Goals as goal
 
 pub returns : goal.returns

@@ -2,7 +2,6 @@
 -- By the law of eight bytes. Assumes nothing.
 use native.Mathlib.Omega.{arith}
 use Rattle.records.proofs.RollLaws.{over_eight, over-told}
-use borrow.Author.Rules.{rules}
 use Rattle.records.proofs.texts.roll_eight.Goals as goal
 
 pub returns : goal.returns

@@ -2,7 +2,6 @@
 -- By the law of four bytes. Assumes nothing.
 use native.Mathlib.Omega.{arith}
 use Rattle.records.proofs.RollLaws.{over_four, over-told}
-use borrow.Author.Rules.{rules}
 use Rattle.records.proofs.texts.roll_four.Goals as goal
 
 pub returns : goal.returns

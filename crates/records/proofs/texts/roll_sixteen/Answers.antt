@@ -2,7 +2,6 @@
 -- By the law of sixteen bytes. Assumes nothing.
 use native.Mathlib.Omega.{arith}
 use Rattle.records.proofs.RollLaws.{over_sixteen, over-told}
-use borrow.Author.Rules.{rules}
 use Rattle.records.proofs.texts.roll_sixteen.Goals as goal
 
 pub returns : goal.returns

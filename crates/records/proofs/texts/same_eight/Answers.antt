@@ -1,7 +1,6 @@
 -- Eight bytes are the same exactly if their two words are.
 -- By the law of eight bytes, from what `load` ensures and from each byte being below 256. Assumes nothing.
 use native.Mathlib.Omega.{arith}
-use borrow.Author.Rules.{rules}
 use Rattle.records.specs.Words.{byte_at}
 use Rattle.records.proofs.EightLaws.{eight_same}
 use Rattle.records.proofs.texts.same_eight.Goals as goal

@@ -1,9 +1,6 @@
 -- Eight eights, then four, then the rest. The invariant of both loops: what was asked is what is left.
 -- The laws of texts part by part, at each turn and at parts that differ. Assumes nothing.
-use mathlib.Core.Path.{refl, sym, ◌∙◌}
-use native.Mathlib.Omega.{arith}
-use borrow.Author.Tests.{not-true, not-false}
-use Rattle.records.proofs.TextLaws.{Left, part-more, part-other}
+use Rattle.records.proofs.TextLaws.{Left}
 use Rattle.records.proofs.texts.same_long.Given as goal
 
 abbrev pub invariant-loop-left : goal.invariant-loop-left

@@ -2,9 +2,7 @@
 -- From what the two functions ensure, by the law of texts part by part. Assumes nothing.
 use mathlib.Core.Path.{refl, sym, ◌∙◌}
 use native.Mathlib.Omega.{arith}
-use borrow.Author.Tests.{not-true, not-false}
 use Rattle.records.proofs.TextLaws.{part-more, part-other}
-use borrow.Author.Rules.{rules}
 use Rattle.records.proofs.texts.same_rest.Goals as goal
 
 pub returns-then-not-same_four : goal.returns-then-not-same_four

@@ -2,8 +2,7 @@
 -- The laws of texts part by part, at each turn and at parts that differ. Assumes nothing.
 use mathlib.Core.Path.{refl, sym, ◌∙◌}
 use native.Mathlib.Omega.{arith}
-use borrow.Author.Tests.{not-true, not-false}
-use Rattle.records.proofs.TextLaws.{Left, part-more, part-other}
+use Rattle.records.proofs.TextLaws.{part-more, part-other}
 use Rattle.records.proofs.texts.same_short.Goals as goal
 
 pub loop-left-init : goal.loop-left-init

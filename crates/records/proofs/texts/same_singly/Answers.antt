@@ -1,8 +1,7 @@
 -- The rest, singly. The invariant: what was asked equals what is left after k bytes, as far as there are so many.
 -- The laws of texts byte by byte, at a byte of the rest and past it. Assumes nothing.
-use Prim.Native.Nat.{◌≤◌, ◌-◌, min}
 use native.Mathlib.Omega.{arith}
-use Rattle.records.proofs.TextLaws.{Same, byte-none, byte_more, byte-other, byte_past, byte_last}
+use Rattle.records.proofs.TextLaws.{byte-none, byte_more, byte-other, byte_past, byte_last}
 use Rattle.records.proofs.texts.same_singly.Goals.{else-k-n, then-k-n+else-s-a}
 use Rattle.records.proofs.texts.same_singly.Goals as goal
 

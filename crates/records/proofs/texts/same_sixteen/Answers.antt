@@ -1,6 +1,5 @@
 -- Sixteen bytes are the same exactly if both eights are.
 -- By the law of two parts of one size. Assumes nothing.
-use borrow.Author.Rules.{rules}
 use Rattle.records.proofs.TextLaws.{same-joined}
 use Rattle.records.proofs.texts.same_sixteen.Goals as goal
 

@@ -1,6 +1,5 @@
 -- As sixteen bytes, with two halves of thirty-two.
 -- By the law of two parts of one size. Assumes nothing.
-use borrow.Author.Rules.{rules}
 use Rattle.records.proofs.TextLaws.{same-joined}
 use Rattle.records.proofs.texts.same_sixty_four.Goals as goal
 

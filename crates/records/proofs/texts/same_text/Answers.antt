@@ -1,7 +1,6 @@
 -- Whether two texts are the same: by their lengths, and else byte by byte.
 -- From what `reach` and `same_part` ensure. Assumes nothing.
 use Rattle.records.proofs.TextLaws.{other-lengths, no_lengths, text-inside, text-inside_too, same_taken}
-use borrow.Author.Rules.{rules}
 use Rattle.records.proofs.texts.same_text.Goals as goal
 
 pub returns-then-x-y : goal.returns-then-x-y

@@ -3,7 +3,6 @@
 use mathlib.Core.Path.{refl}
 use native.Mathlib.Omega.{arith}
 use Rattle.records.specs.Digest.{digest_step}
-use borrow.Author.Rules.{rules}
 use Rattle.records.proofs.texts.step.Goals as goal
 
 pub returns : goal.returns

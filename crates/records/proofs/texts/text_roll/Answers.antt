@@ -1,7 +1,6 @@
 -- The digest of a text that goes on, as far as the text lies within the buffer.
 -- From what `reach` and `roll` ensure. Assumes nothing.
 use native.Mathlib.Omega.{arith}
-use borrow.Author.Rules.{rules}
 use Rattle.records.proofs.TextLaws.{text-inside}
 use Rattle.records.proofs.DigestLaws.{roll_none, roll_taken}
 use Rattle.records.proofs.texts.text_roll.Goals as goal

@@ -1,7 +1,6 @@
 -- The digest of four words is two steps and the last.
 -- From what the steps ensure. Assumes nothing.
 use Rattle.records.proofs.DigestLaws.{four_done}
-use borrow.Author.Rules.{rules}
 use Rattle.records.proofs.texts.word_digest.Goals as goal
 
 pub returns : goal.returns

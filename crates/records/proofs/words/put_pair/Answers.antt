@@ -1,7 +1,6 @@
 -- Two words, one behind the other, are one run.
 -- By the law of two runs. Assumes nothing.
 use Rattle.records.proofs.WordLaws.{put_pair}
-use borrow.Author.Rules.{rules}
 use Rattle.records.proofs.words.put_pair.Goals as goal
 
 pub returns : goal.returns

@@ -2,7 +2,6 @@
 -- What the slot answered, and what `put_four` wrote above the open names and `put_word` at the slot. Assumes nothing.
 use native.Mathlib.Omega.{arith}
 use Rattle.scope.proofs.Names.{declare_at_lem, declare_new_lem, mark_one}
-use borrow.Author.Rules.{rules}
 use Rattle.scope.proofs.Scope.declare.Goals as goal
 
 pub returns-in-At : goal.returns-in-At

@@ -2,7 +2,6 @@
 -- What the slot answered, read back as a variable. Assumes nothing.
 use native.Mathlib.Omega.{arith}
 use Rattle.scope.proofs.Names.{find_at, find_nowhere, found_below}
-use borrow.Author.Rules.{rules}
 use Rattle.scope.proofs.Scope.find_variable.Goals as goal
 
 pub variable_at-requires : goal.variable_at-requires

@@ -1,9 +1,6 @@
 -- Entries are sorted: each half the other way round, and both merged. The measure is how many there are.
 -- By the laws of two halves, over what the two calls and the merging ensure. Assumes nothing.
-use mathlib.Core.Path.{◌∙◌}
-use Prim.Native.Nat.{ℕ, ◌-◌, ◌<◌}
-use native.Mathlib.Omega.{arith}
-use Rattle.sorting.proofs.SortLaws.{few_arranged, both-none, first_half, second_half, two_runs, halves_arranged, halves_only}
+use Prim.Native.Nat.{◌-◌}
 use Rattle.sorting.proofs.sorted.+sort_range.Given as goal
 
 abbrev pub decreases-sort_range : goal.decreases-sort_range

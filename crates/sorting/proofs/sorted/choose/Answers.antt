@@ -1,7 +1,6 @@
 -- Which of two keys behind a third is next, by how far each agrees with it, and else by comparing them from there on.
 -- By the laws of which is next. Assumes nothing.
 use native.Mathlib.Omega.{arith}
-use borrow.Author.Rules.{rules}
 use Rattle.sorting.proofs.AheadLaws.{left-further, right-further, agree_so_far}
 use Rattle.sorting.proofs.sorted.choose.Goals as goal
 

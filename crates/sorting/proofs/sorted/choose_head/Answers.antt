@@ -1,7 +1,6 @@
 -- Which head of two runs is next: the other where a run is at its end, else by their keys.
 -- By the laws of two heads, over what the words and the choice ensure. Assumes nothing.
 use mathlib.Core.Path.{◌∙◌}
-use borrow.Author.Rules.{rules}
 use Rattle.sorting.specs.Sorted.{record_key}
 use Rattle.sorting.proofs.MergeLaws.{heads-asked, heads-told, left_ended, right-ended}
 use Rattle.sorting.proofs.sorted.choose_head.Goals as goal

@@ -1,6 +1,5 @@
 -- How many of n bytes agree from two bytes on: all where these are one, else they are compared.
 -- By the law of a text beside itself. Assumes nothing.
-use borrow.Author.Rules.{rules}
 use Rattle.sorting.proofs.AheadLaws.{common-one}
 use Rattle.sorting.proofs.sorted.common_from.Goals as goal
 

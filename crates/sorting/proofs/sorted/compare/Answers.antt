@@ -1,7 +1,6 @@
 -- Two records compared: by their words, by their texts, or a text with words.
 -- By the laws of keys, over what the calls ensure, and from each byte of the text being below 256. Assumes nothing.
 use native.Mathlib.Omega.{arith}
-use borrow.Author.Rules.{rules}
 use Rattle.sorting.proofs.KeyLaws.{both_words, one-words, texts-from, both-texts}
 use Rattle.sorting.proofs.sorted.compare.Goals as goal
 

@@ -2,7 +2,6 @@
 -- By the laws of the texts of two records, over what the calls ensure. Assumes nothing.
 use mathlib.Core.Path.{◌∙◌}
 use native.Mathlib.Omega.{arith}
-use borrow.Author.Rules.{rules}
 use Rattle.sorting.proofs.AheadLaws.{compared-from, shared-fits, ends-known, compared}
 use Rattle.sorting.proofs.sorted.compare_texts.Goals as goal
 

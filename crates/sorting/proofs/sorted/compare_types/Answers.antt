@@ -1,7 +1,6 @@
 -- Two types compared by their forms, and by their words where these are one.
 -- By the laws of a first number that differs or agrees, over what the calls ensure. Assumes nothing.
 use native.Mathlib.Omega.{arith}
-use borrow.Author.Rules.{rules}
 use Rattle.sorting.proofs.KeyLaws.{forms_other, three_fit, forms_same}
 use Rattle.sorting.proofs.sorted.compare_types.Goals as goal
 

@@ -1,6 +1,5 @@
 -- Three words of two records compared, one after the other.
 -- Each return is a law of lists that differ there, over what the words are. Assumes nothing.
-use borrow.Author.Rules.{rules}
 use Rattle.sorting.proofs.KeyLaws.{first-other, second-other, third_other, words_same}
 use Rattle.sorting.proofs.sorted.compare_words.Goals as goal
 

@@ -1,10 +1,9 @@
 -- The records of entries are copied, one for one. The invariant: those passed are, and nothing else is written.
 -- By the law of one more; the measure is what is left. Assumes nothing.
-use Prim.Native.Nat.{◌≤◌, ◌-◌}
 use native.Mathlib.Omega.{arith}
 use borrow.Author.Rules.{rules}
 use Rattle.sorting.proofs.MergeLaws.{only_none}
-use Rattle.sorting.proofs.SortLaws.{Copied, copied_more, copied_whole}
+use Rattle.sorting.proofs.SortLaws.{copied_more, copied_whole}
 use Rattle.sorting.proofs.sorted.copy_records.Goals as goal
 
 pub loop-i-init : goal.loop-i-init

@@ -1,10 +1,8 @@
 -- The lowest record that repeats a key. The invariant: it is that of the entries looked at, or the bound.
 -- By the laws of such entries; the measure is what is left. Assumes nothing.
-use Prim.Native.Nat.{◌-◌, ◌≤◌}
+use Prim.Native.Nat.{◌-◌}
 use native.Mathlib.Omega.{arith}
-use borrow.Author.Rules.{rules}
-use Rattle.sorting.specs.Sorted.{record_key}
-use Rattle.sorting.proofs.GroupLaws.{fewer, Looked, looked_none, looked_more, looked_all}
+use Rattle.sorting.proofs.GroupLaws.{fewer, looked_none, looked_more, looked_all}
 use Rattle.sorting.proofs.sorted.first_repeated.Goals as goal
 
 pub loop-i-init : goal.loop-i-init

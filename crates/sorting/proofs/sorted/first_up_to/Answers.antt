@@ -2,7 +2,6 @@
 -- By the laws of the first with a key. Assumes nothing.
 use Prim.Native.Nat.{◌-◌}
 use native.Mathlib.Omega.{arith}
-use borrow.Author.Rules.{rules}
 use Rattle.sorting.proofs.GroupLaws.{fewer, first-at-all, first_goes_on, first-new}
 use Rattle.sorting.proofs.sorted.first_up_to.Goals as goal
 

@@ -1,6 +1,5 @@
 -- How long the key of a record is: a form and three words, or its text.
 -- By the laws of keys, over what the calls ensure. Assumes nothing.
-use borrow.Author.Rules.{rules}
 use Rattle.sorting.proofs.KeyLaws.{words_long, text-long}
 use Rattle.sorting.proofs.sorted.key_long.Goals as goal
 

@@ -1,10 +1,6 @@
 -- Two runs are merged, entry for entry. The invariant: those put out are sorted, and what is left comes behind them.
 -- By the laws of merging; the measure is what is left to put out. Assumes nothing.
-use Prim.Native.Nat.{◌≤◌, ◌-◌}
 use native.Mathlib.Omega.{arith}
-use borrow.Author.Rules.{rules}
-use Rattle.records.specs.Words.{records}
-use Rattle.sorting.specs.Sorted.{record_key, Merging, OnlyThere}
 use Rattle.sorting.proofs.MergeLaws.{merging_start, merging_end, only_none, only-on}
 use Rattle.sorting.proofs.sorted.merge.Goals as goal
 

@@ -1,12 +1,9 @@
 -- Each sorted record gets its number. The invariant: those passed have theirs, and the first with the last one's key is known.
 -- By the laws of numbers written; the measure is what is left. Assumes nothing.
-use mathlib.Core.Path.{◌≡◌, ◌∙◌}
+use mathlib.Core.Path.{◌≡◌}
 use Prim.Native.Nat.{ℕ, ◌+◌, ◌-◌, ◌≤◌}
-use native.Mathlib.Omega.{arith}
-use borrow.Author.Rules.{rules}
 use Rattle.records.specs.Words.{records}
 use Rattle.sorting.specs.Sorted.{record_key, FirstUpTo, NumberedUpTo}
-use Rattle.sorting.proofs.GroupLaws.{fewer, numbered-none, numbered-whole, sorted_still, up_to_now, up_to_then, number_fits, numbered_more}
 use Rattle.sorting.proofs.sorted.number_sorted.Given as goal
 
 abbrev pub invariant-loop-i : goal.invariant-loop-i

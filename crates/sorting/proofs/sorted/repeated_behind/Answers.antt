@@ -1,7 +1,6 @@
 -- The record of the entry behind, if both have the same key.
 -- From what the comparison and the word ensure. Assumes nothing.
 use mathlib.Core.Path.{◌∙◌}
-use borrow.Author.Rules.{rules}
 use Rattle.sorting.proofs.GroupLaws.{repeated_here, repeated_not}
 use Rattle.sorting.proofs.sorted.repeated_behind.Goals as goal
 

@@ -3,7 +3,6 @@
 use mathlib.Core.Path.{◌∙◌}
 use Prim.Native.Nat.{◌+◌}
 use native.Mathlib.Omega.{arith}
-use borrow.Author.Rules.{rules}
 use Rattle.sorting.specs.Sorted.{record_key}
 use Rattle.sorting.proofs.GroupLaws.{same-told}
 use Rattle.sorting.proofs.sorted.same_as_next.Goals as goal

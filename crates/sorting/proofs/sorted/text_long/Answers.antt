@@ -1,7 +1,6 @@
 -- How many bytes a record's text has, by its words A and B.
 -- From what the words and the reach ensure. Assumes nothing.
 use mathlib.Core.Path.{◌∙◌}
-use borrow.Author.Rules.{rules}
 use Rattle.sorting.proofs.AheadLaws.{long-told}
 use Rattle.sorting.proofs.sorted.text_long.Goals as goal
 

@@ -1,7 +1,6 @@
 -- A Break or Continue is converted by its kind.
 -- Each branch is the definition's case of that kind. Assumes nothing.
 use Rattle.statements.proofs.BlockLaws.{jump_break, jump_continue}
-use borrow.Author.Rules.{rules}
 use Rattle.statements.proofs.blocks.convert_jump.Goals as goal
 
 pub returns-then-kind-eq-KIND_BREAK : goal.returns-then-kind-eq-KIND_BREAK

@@ -5,7 +5,6 @@ use native.Mathlib.Omega.{arith}
 use Rattle.statements.proofs.PlainTurns.{own-declare, own_init, own-return}
 use Rattle.statements.proofs.BlockLaws.{plain_declare, plain_init, plain_return, plain_call}
 use Rattle.statements.specs.Lent.{at}
-use borrow.Author.Rules.{rules}
 use Rattle.statements.proofs.blocks.convert_plain.Goals as goal
 
 pub convert_declare-requires : goal.convert_declare-requires

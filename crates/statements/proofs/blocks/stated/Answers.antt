@@ -3,7 +3,6 @@
 use mathlib.Core.Path.{sym, ap}
 use Rattle.statements.specs.Answers.{stated_with}
 use Rattle.statements.specs.Lent.{finished_with}
-use borrow.Author.Rules.{rules}
 use Rattle.statements.proofs.blocks.stated.Goals as goal
 
 pub returns-in-Refused : goal.returns-in-Refused

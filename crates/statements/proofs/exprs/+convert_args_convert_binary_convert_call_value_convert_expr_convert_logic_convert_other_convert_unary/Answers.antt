@@ -6,22 +6,18 @@ use types.Run.{OneOf}
 use denote.Enum.Declared.{tag_of}
 use Rattle.records.specs.declared.convert_error.ConvertError.{ConvertError}
 use Rattle.expressions.specs.declared.answers.Resolved.{Resolved}
-use Rattle.expressions.specs.declared.answers.Resolved.TheVariants as Resolved
 use Rattle.expressions.specs.contracts.answers.Resolved.{the_type}
-use lib.ListN.{length}
 use Rattle.statements.specs.declared.answers.Converter.{Converter}
 use Rattle.statements.specs.Lent.{at, converted, converted_args}
 use mathlib.Core.Path.{◌≡◌, refl, ap, ◌∙◌}
 use native.Mathlib.Omega.{arith}
-use borrow.Author.Rules.{rules}
-use Rattle.syntax.proofs.Lists.{left}
 use Rattle.expressions.proofs.TypingLaws.{is-typed, is-kind, expr-low}
 use Rattle.statements.proofs.AroundLaws.{variable_type_lem, left_side, right_side}
 use Rattle.statements.proofs.ConvertLaws.{converts-most, converting_after}
 use Rattle.statements.proofs.ExprLaws.{typed_converting, typed-stop, typed-unary, typed-binary, typed_call, call-kind, operand_side, unary-part, unary-room, unary-stop, unary-next, fitted_converting, fitted-stop, fitted_logic, fitted-other, left_afforded, begin_room, other-left, other_afforded, other-room, other-right, other-next, logic_converting, logic_left_afforded, logic_left, logic_room, logic_right_converting, logic_right_afforded, logic_right, logic_end-room, logic_next}
-use Rattle.statements.proofs.ArgsLaws.{called_converting, called_afforded, called_stop, args-stop, finish_converting, finish_afforded, called_next, ArgsLeft, loop_start_lem, loop_end_lem, cell-low, next-less, loop_end-types, turn_in, turn-type, value_low, value_afforded, value_room, push-room, turn-stop, turn-value}
+use Rattle.statements.proofs.ArgsLaws.{called_converting, called_afforded, called_stop, args-stop, finish_converting, finish_afforded, called_next, loop_start_lem, loop_end_lem, cell-low, next-less, loop_end-types, turn_in, turn-type, value_low, value_afforded, value_room, push-room, turn-stop, turn-value}
 use Rattle.statements.proofs.TypedLaws.{refused-types, args-refused-types, leaf_types, typed-in_turn, unary_types_lem, binary_types_lem, call_types_lem, common_in-turn, common_types_lem, operand-types, left-in_turn, sides_types_lem, called_in_turn, called_types}
-use Prim.Native.Nat.{ℕ, ◌+◌, ◌*◌, ◌<◌}
+use Prim.Native.Nat.{ℕ}
 use Rattle.statements.proofs.exprs.+convert_args_convert_binary_convert_call_value_convert_expr_convert_logic_convert_other_convert_unary.Goals.{convert_args-in-Expr+in-Is, convert_args-in_default}
 use Rattle.statements.proofs.exprs.+convert_args_convert_binary_convert_call_value_convert_expr_convert_logic_convert_other_convert_unary.Goals as goal
 

@@ -2,7 +2,6 @@
 -- By the two tests of the definition. Assumes nothing.
 use mathlib.Core.Path.{sym, ◌∙◌}
 use Rattle.statements.proofs.FitLaws.{check_done, check_range, check-place}
-use borrow.Author.Rules.{rules}
 use Rattle.statements.proofs.fits.check_fits.Goals as goal
 
 pub returns-then-fits : goal.returns-then-fits

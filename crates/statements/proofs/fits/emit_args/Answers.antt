@@ -1,12 +1,8 @@
 -- An Arg for each value: what is left owes what the whole owes, and the rest has room.
 -- By one turn, and the end. Assumes nothing.
-use mathlib.Core.Path.{◌≡◌, refl}
-use lib.ListN.{length}
-use Rattle.ir.specs.Counted.{counted}
-use Prim.Native.Nat.{◌-◌}
+use mathlib.Core.Path.{refl}
 use native.Mathlib.Omega.{arith}
-use Rattle.records.specs.Words.{records}
-use Rattle.statements.proofs.FitTurns.{EmitLeft, emit_start, emit-turn, emit_end}
+use Rattle.statements.proofs.FitTurns.{emit_start, emit-turn, emit_end}
 use Rattle.statements.proofs.fits.emit_args.Goals as goal
 
 pub loop-j-init : goal.loop-j-init

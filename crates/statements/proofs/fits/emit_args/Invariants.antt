@@ -1,12 +1,11 @@
 -- An Arg for each value: what is left owes what the whole owes, and the rest has room.
 -- By one turn, and the end. Assumes nothing.
-use mathlib.Core.Path.{◌≡◌, refl}
+use mathlib.Core.Path.{◌≡◌}
 use lib.ListN.{length}
 use Rattle.ir.specs.Counted.{counted}
 use Prim.Native.Nat.{◌-◌}
-use native.Mathlib.Omega.{arith}
 use Rattle.records.specs.Words.{records}
-use Rattle.statements.proofs.FitTurns.{EmitLeft, emit_start, emit-turn, emit_end}
+use Rattle.statements.proofs.FitTurns.{EmitLeft}
 use Rattle.statements.proofs.fits.emit_args.Given as goal
 
 abbrev pub invariant-loop-j : goal.invariant-loop-j

@@ -1,8 +1,7 @@
 -- The first value of a list of arguments goes to the parameter beside it, where every type before it took one.
 -- By the laws of the walk past a type and of its two ends, and a number that falls with each cell. Assumes nothing.
-use borrow.Author.Rules.{rules}
-use Rattle.syntax.proofs.Lists.{left, cell_below, next_falls}
-use Rattle.statements.proofs.PositionLaws.{Walked, walk_start, walk_end, at_value, past-type}
+use Rattle.syntax.proofs.Lists.{left}
+use Rattle.statements.proofs.PositionLaws.{Walked}
 use Rattle.statements.proofs.fits.first_value.Given as goal
 
 abbrev pub invariant-loop-cell : goal.invariant-loop-cell

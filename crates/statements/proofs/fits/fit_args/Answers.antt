@@ -1,16 +1,12 @@
 -- Each value is fitted to its parameter, in place: what is left owes what the whole owes, and the rest has room.
 -- By one turn, and the end. Assumes nothing.
-use lib.ListN.{length}
-use Rattle.ir.specs.Counted.{counted}
 use Rattle.statements.specs.Lent.{fitted}
 use Rattle.statements.proofs.StayLaws.{names_of}
-use mathlib.Core.Path.{◌≡◌, refl, sym, ap}
-use Prim.Native.Nat.{◌-◌}
+use mathlib.Core.Path.{refl, sym, ap}
 use native.Mathlib.Omega.{arith}
-use Rattle.records.specs.Words.{word_of, C}
-use Rattle.syntax.specs.Places.{args_at, function_of}
+use Rattle.syntax.specs.Places.{args_at}
 use Rattle.expressions.proofs.OperandLaws.{first-type}
-use Rattle.statements.proofs.FitTurns.{first-cells, FitLeft, fit_start, operand_in, fit-turn, fit_end}
+use Rattle.statements.proofs.FitTurns.{first-cells, fit_start, operand_in, fit-turn, fit_end}
 use Rattle.statements.proofs.fits.fit_args.Goals as goal
 
 pub reference-argument-requires : goal.reference-argument-requires

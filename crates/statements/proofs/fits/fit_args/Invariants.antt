@@ -2,15 +2,11 @@
 -- By one turn, and the end. Assumes nothing.
 use lib.ListN.{length}
 use Rattle.ir.specs.Counted.{counted}
-use Rattle.statements.specs.Lent.{fitted}
-use Rattle.statements.proofs.StayLaws.{names_of}
-use mathlib.Core.Path.{◌≡◌, refl, sym, ap}
+use mathlib.Core.Path.{◌≡◌}
 use Prim.Native.Nat.{◌-◌}
-use native.Mathlib.Omega.{arith}
 use Rattle.records.specs.Words.{word_of, C}
 use Rattle.syntax.specs.Places.{args_at, function_of}
-use Rattle.expressions.proofs.OperandLaws.{first-type}
-use Rattle.statements.proofs.FitTurns.{first-cells, FitLeft, fit_start, operand_in, fit-turn, fit_end}
+use Rattle.statements.proofs.FitTurns.{FitLeft}
 use Rattle.statements.proofs.fits.fit_args.Given as goal
 
 abbrev pub invariant-loop-j : goal.invariant-loop-j

@@ -1,7 +1,6 @@
 -- A float takes the mark of the place's Float type, and stays as it is at any other.
 -- By the form of the type. Assumes nothing.
 use Rattle.statements.proofs.FitLaws.{float_marked, float_stays}
-use borrow.Author.Rules.{rules}
 use Rattle.statements.proofs.fits.fit_float.Goals as goal
 
 pub returns-then-form-eq-FORM_FLOAT : goal.returns-then-form-eq-FORM_FLOAT

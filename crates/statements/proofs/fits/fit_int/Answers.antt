@@ -1,7 +1,6 @@
 -- An Int takes the marks of the place's Int type, and stays as it is at any other.
 -- By the form of the type. Assumes nothing.
 use Rattle.statements.proofs.FitLaws.{int_marked, int_stays}
-use borrow.Author.Rules.{rules}
 use Rattle.statements.proofs.fits.fit_int.Goals as goal
 
 pub returns-then-form-eq-FORM_INT : goal.returns-then-form-eq-FORM_INT

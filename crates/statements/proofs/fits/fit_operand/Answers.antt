@@ -4,7 +4,6 @@ use mathlib.Core.Path.{refl}
 use native.Mathlib.Omega.{arith}
 use Rattle.ir.proofs.AmountLaws.{less}
 use Rattle.statements.proofs.FitLaws.{fitted_as, bool-fits, string_fits, null_fits, variable_in_lem}
-use borrow.Author.Rules.{rules}
 use Rattle.statements.proofs.fits.fit_operand.Goals as goal
 
 pub fit_variable-requires : goal.fit_variable-requires

@@ -1,7 +1,6 @@
 -- A variable is cast if its type and the place's are Floats that differ, and stays as it is if not.
 -- By the three tests of the definition. Assumes nothing.
 use Rattle.statements.proofs.FitLaws.{variable-cast, variable-stays}
-use borrow.Author.Rules.{rules}
 use Rattle.statements.proofs.fits.fit_variable.Goals as goal
 
 pub returns-then-floats-ty : goal.returns-then-floats-ty

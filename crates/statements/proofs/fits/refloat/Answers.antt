@@ -2,7 +2,6 @@
 -- By the law of both steps in a row. Assumes nothing.
 use native.Mathlib.Omega.{arith}
 use Rattle.statements.proofs.FitLaws.{refloat-fits}
-use borrow.Author.Rules.{rules}
 use Rattle.statements.proofs.fits.refloat.Goals as goal
 
 pub returns : goal.returns

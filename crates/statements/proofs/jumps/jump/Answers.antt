@@ -2,7 +2,6 @@
 -- The label's step and then the instruction's. Assumes nothing.
 use Rattle.statements.proofs.JumpLaws.{jump_adds}
 use native.Mathlib.Omega.{arith}
-use borrow.Author.Rules.{rules}
 use Rattle.statements.proofs.jumps.jump.Goals as goal
 
 pub emit_jump-requires : goal.emit_jump-requires

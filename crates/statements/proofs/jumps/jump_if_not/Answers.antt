@@ -2,7 +2,6 @@
 -- The label's step and then the instruction's. Assumes nothing.
 use Rattle.statements.proofs.JumpLaws.{jump_if_not-adds}
 use native.Mathlib.Omega.{arith}
-use borrow.Author.Rules.{rules}
 use Rattle.statements.proofs.jumps.jump_if_not.Goals as goal
 
 pub emit_jump_if_not-requires : goal.emit_jump_if_not-requires

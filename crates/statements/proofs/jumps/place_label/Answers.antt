@@ -2,7 +2,6 @@
 -- The label's step and then the instruction's. Assumes nothing.
 use Rattle.statements.proofs.JumpLaws.{place-adds}
 use native.Mathlib.Omega.{arith}
-use borrow.Author.Rules.{rules}
 use Rattle.statements.proofs.jumps.place_label.Goals as goal
 
 pub emit_label-requires : goal.emit_label-requires

@@ -2,7 +2,6 @@
 -- By what typing and fitting owe, one after the other. Assumes nothing.
 use mathlib.Core.List.{[]}
 use Rattle.statements.proofs.ForLaws.{bound_asks, bound_not, bound_is, refused_outcome}
-use borrow.Author.Rules.{rules}
 use Rattle.statements.proofs.loops.check_bound.Goals as goal
 
 pub get_type-requires : goal.get_type-requires

@@ -2,7 +2,6 @@
 -- A jump, two labels and an instruction in a row. Assumes nothing.
 use native.Mathlib.Omega.{arith}
 use Rattle.statements.proofs.HeadLaws.{count-adds}
-use borrow.Author.Rules.{rules}
 use Rattle.statements.proofs.loops.count_on.Goals as goal
 
 pub place_label-requires : goal.place_label-requires

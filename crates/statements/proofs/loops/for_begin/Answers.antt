@@ -8,7 +8,6 @@ use Rattle.statements.proofs.ConvertLaws.{converted-next}
 use Rattle.statements.proofs.StayLaws.{record_counted}
 use Rattle.statements.proofs.HeadLaws.{first_bound, bound_afforded, bound_room, count_room, bound_operand, begin_refused, begin_done, refused-finished, operand-typed}
 use Rattle.statements.specs.Lent.{at, converted}
-use borrow.Author.Rules.{rules}
 use Rattle.statements.proofs.loops.for_begin.Goals as goal
 
 pub convert_expr-requires : goal.convert_expr-requires

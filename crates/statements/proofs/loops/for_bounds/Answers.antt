@@ -5,7 +5,6 @@ use Rattle.expressions.proofs.SlotLaws.{ready-frame}
 use Rattle.statements.proofs.ForLaws.{bounds_not, bounds_then, refused_outcome, checked_in_turn, bounds_typed}
 use Rattle.statements.proofs.HeadLaws.{first_bound, second_bound}
 use Rattle.statements.specs.Lent.{at}
-use borrow.Author.Rules.{rules}
 use Rattle.statements.proofs.loops.for_bounds.Goals as goal
 
 pub check_bound-requires : goal.check_bound-requires

@@ -2,7 +2,6 @@
 -- By what the new variable and its name owe. Assumes nothing.
 use native.Mathlib.Omega.{arith}
 use Rattle.statements.proofs.ForLaws.{variable-inside, declare_asks, for_taken, for_done, refused-variable, declared_none}
-use borrow.Author.Rules.{rules}
 use Rattle.statements.proofs.loops.for_declared.Goals as goal
 
 pub word-requires : goal.word-requires

@@ -5,7 +5,6 @@ use mathlib.Core.Path.{ap}
 use Rattle.statements.proofs.PlainTurns.{refused-stated}
 use Rattle.statements.proofs.ForLaws.{head_not, head_asks, head_turns-not, head_done, head_in-turn, head_typed}
 use Rattle.statements.specs.Lent.{finished_with, found_variable}
-use borrow.Author.Rules.{rules}
 use Rattle.statements.proofs.loops.for_head.Goals as goal
 
 pub for_turns-requires : goal.for_turns-requires

@@ -1,7 +1,6 @@
 -- The variable that a For changes: one of the blocks around, which may not be constant.
 -- By what the search finds. Assumes nothing.
 use Rattle.statements.proofs.ForLaws.{variable-asked, known-not, known_fixed, known_is}
-use borrow.Author.Rules.{rules}
 use Rattle.statements.proofs.loops.for_known.Goals as goal
 
 pub find_name-requires : goal.find_name-requires

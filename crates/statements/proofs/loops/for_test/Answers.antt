@@ -7,7 +7,6 @@ use Rattle.statements.proofs.ConvertLaws.{converted-next}
 use Rattle.statements.proofs.StayLaws.{record_counted}
 use Rattle.statements.proofs.HeadLaws.{second_bound, bound_afforded, bound_room, bound_operand, test-refused, test-done, refused-finished, operand-typed}
 use Rattle.statements.specs.Lent.{at, converted}
-use borrow.Author.Rules.{rules}
 use Rattle.statements.proofs.loops.for_test.Goals as goal
 
 pub convert_expr-requires : goal.convert_expr-requires

@@ -7,7 +7,6 @@ use Rattle.statements.proofs.StayLaws.{names_refl, names_then, frame-names}
 use Rattle.statements.proofs.StatedLaws.{finishes_most, finished-next, finished_converting}
 use Rattle.statements.proofs.ForLaws.{turns-not_int, checks_converting, turns_bounds_not, turns_begin_not, turns_then, checked_in_turn, test-in_turn, turns-typed}
 use Rattle.statements.specs.Lent.{at, finished_with}
-use borrow.Author.Rules.{rules}
 use Rattle.statements.proofs.loops.for_turns.Goals as goal
 
 pub returns-then-form-ne-FORM_INT : goal.returns-then-form-ne-FORM_INT

@@ -4,7 +4,6 @@ use Rattle.statements.proofs.TurnLaws.{turns_refl}
 use Rattle.statements.proofs.ForLaws.{variable-inside, variable-typed, variable-typed-none}
 use native.Mathlib.Omega.{arith}
 use Rattle.statements.specs.Lent.{at}
-use borrow.Author.Rules.{rules}
 use Rattle.statements.proofs.loops.for_variable.Goals as goal
 
 pub word-requires : goal.word-requires

@@ -1,7 +1,6 @@
 -- Whether the If has an otherwise.
 -- Its detail is 0 or 1. Assumes nothing.
 use native.Mathlib.Omega.{arith}
-use borrow.Author.Rules.{rules}
 use Rattle.statements.proofs.LeafLaws.{mark_bit}
 use Rattle.statements.proofs.loops.has_otherwise.Goals as goal
 

@@ -5,7 +5,6 @@ use mathlib.Core.Path.{ap}
 use Rattle.statements.specs.Turns.{value_types}
 use Rattle.statements.proofs.HeadLaws.{record_inside, if_mark, if_cond_requires, if_jump_requires, if-refused, if-done, refused-finished, operand-typed}
 use Rattle.statements.specs.Lent.{at, converted}
-use borrow.Author.Rules.{rules}
 use Rattle.statements.proofs.loops.if_head.Goals as goal
 
 pub if_not_label-label-requires : goal.if_not_label-label-requires

@@ -2,7 +2,6 @@
 -- A jump and a label in a row. Assumes nothing.
 use Rattle.statements.proofs.HeadLaws.{middle_adds}
 use native.Mathlib.Omega.{arith}
-use borrow.Author.Rules.{rules}
 use Rattle.statements.proofs.loops.if_middle.Goals as goal
 
 pub place_label-requires : goal.place_label-requires

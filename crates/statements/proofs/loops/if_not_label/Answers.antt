@@ -1,7 +1,6 @@
 -- Where the If goes when its condition does not hold.
 -- By the test. Assumes nothing.
 use mathlib.Core.Path.{sym, ◌∙◌}
-use borrow.Author.Rules.{rules}
 use Rattle.laws.proofs.FixLaws.{pick_yes, pick_no}
 use Rattle.statements.proofs.loops.if_not_label.Goals as goal
 

@@ -4,7 +4,6 @@ use mathlib.Core.List.{[]}
 use native.Mathlib.Omega.{arith}
 use Rattle.syntax.specs.Decode.{program}
 use Rattle.statements.proofs.HeadLaws.{test-adds}
-use borrow.Author.Rules.{rules}
 use Rattle.statements.proofs.loops.test_bound.Goals as goal
 
 pub new_var-cond-requires : goal.new_var-cond-requires

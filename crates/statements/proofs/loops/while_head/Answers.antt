@@ -5,7 +5,6 @@ use mathlib.Core.Path.{ap}
 use Rattle.statements.specs.Turns.{value_types}
 use Rattle.statements.proofs.HeadLaws.{while_cond_requires, while_jump_requires, while_refused, while_done, refused-finished, operand-typed}
 use Rattle.statements.specs.Lent.{at, converted}
-use borrow.Author.Rules.{rules}
 use Rattle.statements.proofs.loops.while_head.Goals as goal
 
 pub convert_cond-requires : goal.convert_cond-requires

@@ -1,7 +1,6 @@
 -- An Int's operand.
 -- Its marks are the bits of the detail. Assumes nothing.
 use Rattle.statements.proofs.LeafLaws.{int_is}
-use borrow.Author.Rules.{rules}
 use Rattle.statements.proofs.operands.int_operand.Goals as goal
 
 pub returns : goal.returns

@@ -1,7 +1,6 @@
 -- A name's operand: its variable, or a refusal at the name.
 -- By what the search for the name finds. Assumes nothing.
 use Rattle.statements.proofs.LeafLaws.{name-ready, name-gives, name_refuses}
-use borrow.Author.Rules.{rules}
 use Rattle.statements.proofs.operands.name_operand.Goals as goal
 
 pub find_name-requires : goal.find_name-requires

@@ -1,7 +1,6 @@
 -- The operand of an entry of the stack.
 -- By the four words that are read. Assumes nothing.
 use Rattle.statements.proofs.StackLaws.{entry_read}
-use borrow.Author.Rules.{rules}
 use Rattle.statements.proofs.operands.operand_at.Goals as goal
 
 pub returns : goal.returns

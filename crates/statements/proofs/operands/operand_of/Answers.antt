@@ -2,7 +2,6 @@
 -- By their tag. Assumes nothing.
 use native.Mathlib.Omega.{arith}
 use Rattle.statements.proofs.StackLaws.{from_var, from-none, from_int, from_float, from_bool, from_string, from_null}
-use borrow.Author.Rules.{rules}
 use Rattle.statements.proofs.operands.operand_of.Goals as goal
 
 pub returns-then-tag-eq-TAG_VARIABLE : goal.returns-then-tag-eq-TAG_VARIABLE

@@ -1,7 +1,6 @@
 -- A SizeOf's operand: the size, or a refusal where there is none.
 -- By the three answers. Assumes nothing.
 use Rattle.statements.proofs.LeafLaws.{over_none, nothing_none, size-inside, size-gives, size_refuses}
-use borrow.Author.Rules.{rules}
 use Rattle.statements.proofs.operands.size_operand.Goals as goal
 
 pub size-requires : goal.size-requires

@@ -2,7 +2,6 @@
 -- Three steps in a row. Assumes nothing.
 use Rattle.statements.proofs.AroundLaws.{begin_adds}
 use native.Mathlib.Omega.{arith}
-use borrow.Author.Rules.{rules}
 use Rattle.statements.proofs.parts.begin_logic.Goals as goal
 
 pub label_id-requires-2 : goal.label_id-requires-2

@@ -2,7 +2,6 @@
 -- By whether there is one. Assumes nothing.
 use Rattle.statements.proofs.AroundLaws.{cast-none, cast_some}
 use native.Mathlib.Omega.{arith}
-use borrow.Author.Rules.{rules}
 use Rattle.statements.proofs.parts.cast_first.Goals as goal
 
 pub returns-then-count-eq0 : goal.returns-then-count-eq0

@@ -2,7 +2,6 @@
 -- A copy and a label in a row. Assumes nothing.
 use Rattle.statements.proofs.AroundLaws.{end_adds}
 use native.Mathlib.Omega.{arith}
-use borrow.Author.Rules.{rules}
 use Rattle.statements.proofs.parts.end_logic.Goals as goal
 
 pub place_label-requires : goal.place_label-requires

@@ -4,7 +4,6 @@ use Rattle.statements.proofs.AroundLaws.{binary-adds, variable_type_lem}
 use Rattle.syntax.specs.Decode.{program}
 use mathlib.Core.List.{[]}
 use native.Mathlib.Omega.{arith}
-use borrow.Author.Rules.{rules}
 use Rattle.statements.proofs.parts.finish_binary.Goals as goal
 
 pub fit_operand-b-requires : goal.fit_operand-b-requires

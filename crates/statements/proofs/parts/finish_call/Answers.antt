@@ -5,7 +5,6 @@ use Rattle.statements.proofs.AroundLaws.{variable_type_lem, callee-refused, call
 use Rattle.statements.proofs.StayLaws.{stays_refl, converting_next}
 use Rattle.statements.proofs.TurnLaws.{turns_refl}
 use native.Mathlib.Omega.{arith}
-use borrow.Author.Rules.{rules}
 use Rattle.statements.proofs.parts.finish_call.Goals as goal
 
 pub overflow_cast-y : goal.overflow_cast-y

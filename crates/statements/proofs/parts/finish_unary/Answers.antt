@@ -1,6 +1,5 @@
 -- The operator goes into a new variable.
 -- A variable and an instruction in a row. Assumes nothing.
-use borrow.Author.Rules.{rules}
 use Rattle.statements.proofs.AroundLaws.{unary-adds, variable_type_lem}
 use native.Mathlib.Omega.{arith}
 use Rattle.statements.proofs.parts.finish_unary.Goals as goal

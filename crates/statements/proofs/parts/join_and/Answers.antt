@@ -2,7 +2,6 @@
 -- A copy and a jump in a row. Assumes nothing.
 use Rattle.statements.proofs.AroundLaws.{and-adds}
 use native.Mathlib.Omega.{arith}
-use borrow.Author.Rules.{rules}
 use Rattle.statements.proofs.parts.join_and.Goals as goal
 
 pub jump_if_not-requires : goal.jump_if_not-requires

@@ -1,7 +1,6 @@
 -- Between the sides of an And or Or, by the operator.
 -- The test of the detail is the definition's choice. Assumes nothing.
 use Rattle.statements.proofs.AroundLaws.{join_and-adds, join_or-adds}
-use borrow.Author.Rules.{rules}
 use Rattle.statements.proofs.parts.join_logic.Goals as goal
 
 pub returns-then-detail-eq-AND : goal.returns-then-detail-eq-AND

@@ -2,7 +2,6 @@
 -- A copy, two jumps and a label in a row. Assumes nothing.
 use Rattle.statements.proofs.AroundLaws.{or-adds}
 use native.Mathlib.Omega.{arith}
-use borrow.Author.Rules.{rules}
 use Rattle.statements.proofs.parts.join_or.Goals as goal
 
 pub jump_if_not-requires : goal.jump_if_not-requires

@@ -3,7 +3,6 @@
 use mathlib.Core.List.{[]}
 use Rattle.statements.proofs.AroundLaws.{common-refused, common-is, common-neither, is-types, neither-types, refused-common}
 use Rattle.statements.specs.Lent.{at}
-use borrow.Author.Rules.{rules}
 use Rattle.statements.proofs.parts.operand_type.Goals as goal
 
 pub common_type-requires : goal.common_type-requires

@@ -6,7 +6,6 @@ use Rattle.statements.proofs.PlainTurns.{typing_in, refused-stated}
 use Rattle.statements.proofs.ConvertLaws.{converting_after}
 use Rattle.statements.proofs.InitLaws.{value-expr, value_afforded, value_checks, copy-room, assign-stop, assign_untyped, assign_unfit, assign-done, assign-turn, assign_types_lem}
 use Rattle.statements.specs.Lent.{converted}
-use borrow.Author.Rules.{rules}
 use Rattle.statements.proofs.statements.assign_to.Goals as goal
 
 pub convert_expr-requires : goal.convert_expr-requires

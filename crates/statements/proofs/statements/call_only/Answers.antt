@@ -5,7 +5,6 @@ use native.Mathlib.Omega.{arith}
 use Rattle.statements.proofs.PlainTurns.{refused-stated}
 use Rattle.statements.proofs.ReturnLaws.{values_afforded, values_converting, values_room, values_typed, passed-room, values_stop, values_called, values_types}
 use Rattle.statements.specs.Lent.{converted_args}
-use borrow.Author.Rules.{rules}
 use Rattle.statements.proofs.statements.call_only.Goals as goal
 
 pub convert_args-requires : goal.convert_args-requires

@@ -5,7 +5,6 @@ use Rattle.statements.proofs.PlainTurns.{typing_in, refused-stated}
 use Rattle.statements.proofs.AroundLaws.{function-callee}
 use Rattle.statements.proofs.ArgsLaws.{called_converting}
 use Rattle.statements.proofs.ReturnLaws.{statement_afforded, resolved_stop, resolved_cast, resolved_function, resolved_turn, resolved_types}
-use borrow.Author.Rules.{rules}
 use Rattle.statements.proofs.statements.call_statement.Goals as goal
 
 pub resolve_call-requires : goal.resolve_call-requires

@@ -3,7 +3,6 @@
 use native.Mathlib.Omega.{arith}
 use Rattle.statements.proofs.PlainTurns.{refused-stated}
 use Rattle.statements.proofs.InitLaws.{assign-constant, assign_plain}
-use borrow.Author.Rules.{rules}
 use Rattle.statements.proofs.statements.convert_assign.Goals as goal
 
 pub returns-then-constant : goal.returns-then-constant

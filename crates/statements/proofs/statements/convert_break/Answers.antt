@@ -2,7 +2,6 @@
 -- By what `in_loop` answers. Assumes nothing.
 use Rattle.statements.proofs.DeclareLaws.{jump_asks, break_outside, break_jumps}
 use native.Mathlib.Omega.{arith}
-use borrow.Author.Rules.{rules}
 use Rattle.statements.proofs.statements.convert_break.Goals as goal
 
 pub jump-requires : goal.jump-requires

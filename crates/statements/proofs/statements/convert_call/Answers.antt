@@ -5,7 +5,6 @@ use mathlib.Core.Path.{sym, ◌∙◌}
 use Rattle.expressions.proofs.TypingLaws.{expr-low}
 use Rattle.statements.proofs.PlainTurns.{typing_in, refused-stated}
 use Rattle.statements.proofs.ReturnLaws.{called_expr, typed-stop, typed-only, only-types}
-use borrow.Author.Rules.{rules}
 use Rattle.statements.proofs.statements.convert_call.Goals as goal
 
 pub kind-requires : goal.kind-requires

@@ -5,7 +5,6 @@ use Rattle.statements.proofs.PlainTurns.{typing_in, value-next}
 use Rattle.statements.proofs.TypedLaws.{refused-types, typed-in_turn}
 use Rattle.statements.proofs.StatedLaws.{type_converting}
 use Rattle.statements.proofs.ReturnLaws.{cond_stop, cond_other, cond_is}
-use borrow.Author.Rules.{rules}
 use Rattle.statements.proofs.statements.convert_cond.Goals as goal
 
 pub get_type-requires : goal.get_type-requires

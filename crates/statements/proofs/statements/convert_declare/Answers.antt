@@ -5,7 +5,6 @@ use native.Mathlib.Omega.{arith}
 use Rattle.statements.proofs.PlainTurns.{refused-stated}
 use Rattle.statements.proofs.DeclareLaws.{declare_asks, zero_asks, declare-taken, declare-refused, declare-done, declare-types}
 use Rattle.statements.specs.Lent.{finished_with}
-use borrow.Author.Rules.{rules}
 use Rattle.statements.proofs.statements.convert_declare.Goals as goal
 
 pub declare_name-requires : goal.declare_name-requires

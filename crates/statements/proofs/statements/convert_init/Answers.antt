@@ -3,7 +3,6 @@
 use native.Mathlib.Omega.{arith}
 use Rattle.statements.proofs.InitLaws.{init_asked, known-typed, init_constant, init_unknown, init_known, known-types}
 use Rattle.statements.specs.Lent.{at}
-use borrow.Author.Rules.{rules}
 use Rattle.statements.proofs.statements.convert_init.Goals as goal
 
 pub shape_of-arena-then-detail-eq1 : goal.shape_of-arena-then-detail-eq1

@@ -6,7 +6,6 @@ use Rattle.statements.proofs.PlainTurns.{typing_in, refused-stated}
 use Rattle.statements.proofs.TypedLaws.{typed-in_turn}
 use Rattle.statements.proofs.StatedLaws.{type_converting}
 use Rattle.statements.proofs.ReturnLaws.{return-expr, expected_type_lem, return_untyped, return-none, return_some, return-next}
-use borrow.Author.Rules.{rules}
 use Rattle.statements.proofs.statements.convert_return.Goals as goal
 
 pub get_type-requires : goal.get_type-requires

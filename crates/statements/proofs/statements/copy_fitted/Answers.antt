@@ -4,7 +4,6 @@ use mathlib.Core.List.{[]}
 use native.Mathlib.Omega.{arith}
 use Rattle.syntax.specs.Decode.{program}
 use Rattle.statements.proofs.InitLaws.{copy-adds}
-use borrow.Author.Rules.{rules}
 use Rattle.statements.proofs.statements.copy_fitted.Goals as goal
 
 pub emit_copy-requires : goal.emit_copy-requires

@@ -3,7 +3,6 @@
 use native.Mathlib.Omega.{arith}
 use Rattle.statements.proofs.PlainTurns.{refused-stated}
 use Rattle.statements.proofs.InitLaws.{new_type_lem, new_requires, new-taken, new_declared, new-types}
-use borrow.Author.Rules.{rules}
 use Rattle.statements.proofs.statements.declare_init.Goals as goal
 
 pub overflow_cast-init_type : goal.overflow_cast-init_type

@@ -7,7 +7,6 @@ use Rattle.statements.proofs.TypedLaws.{typed-in_turn}
 use Rattle.statements.proofs.StatedLaws.{type_converting}
 use Rattle.statements.proofs.InitLaws.{value-expr, value_afforded, new_untyped, new-stop, new_converting, new_afforded, new-typed, new-done, value-turn, value_types_lem}
 use Rattle.statements.specs.Lent.{converted}
-use borrow.Author.Rules.{rules}
 use Rattle.statements.proofs.statements.init_new.Goals as goal
 
 pub get_type-requires : goal.get_type-requires

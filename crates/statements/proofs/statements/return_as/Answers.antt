@@ -6,7 +6,6 @@ use Rattle.types.proofs.FromGood.{is-type}
 use Rattle.statements.proofs.PlainTurns.{refused-stated}
 use Rattle.statements.proofs.ReturnLaws.{return-expr, value_afforded, value_room, fitted-room, return_unfit, return-stop, return-done, return-types}
 use Rattle.statements.specs.Lent.{at, converted}
-use borrow.Author.Rules.{rules}
 use Rattle.statements.proofs.statements.return_as.Goals as goal
 
 pub check_fits-requires : goal.check_fits-requires

@@ -2,7 +2,6 @@
 -- By the law of both steps in a row. Assumes nothing.
 use native.Mathlib.Omega.{arith}
 use Rattle.statements.proofs.DeclareLaws.{zero_float-adds}
-use borrow.Author.Rules.{rules}
 use Rattle.statements.proofs.statements.zero_float.Goals as goal
 
 pub returns : goal.returns

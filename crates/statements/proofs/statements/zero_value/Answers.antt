@@ -2,7 +2,6 @@
 -- By the law of each form. Assumes nothing.
 use native.Mathlib.Omega.{arith}
 use Rattle.statements.proofs.DeclareLaws.{zero_int, zero_float_lem, zero_array, zero_custom, zero-other}
-use borrow.Author.Rules.{rules}
 use Rattle.statements.proofs.statements.zero_value.Goals as goal
 
 pub returns-then-f-eq-FORM_INT : goal.returns-then-f-eq-FORM_INT

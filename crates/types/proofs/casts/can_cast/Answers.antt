@@ -3,7 +3,6 @@
 use mathlib.Core.Path.{sym}
 use borrow.Author.Tests.{eq-eqb, ne_eqb}
 use Rattle.conversion.specs.Types.{can_cast}
-use borrow.Author.Rules.{rules}
 use Rattle.types.proofs.casts.can_cast.Goals as goal
 
 pub returns-then-from-to : goal.returns-then-from-to

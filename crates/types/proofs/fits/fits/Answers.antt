@@ -1,6 +1,5 @@
 -- Equal types always; else by their forms. Each answer is a case of `FitsCases`. Assumes nothing.
 use Rattle.types.proofs.FitsCases.{fits-same, fits-other}
-use borrow.Author.Rules.{rules}
 use Rattle.types.proofs.fits.fits.Goals as goal
 
 pub returns-then-ty-expected : goal.returns-then-ty-expected

@@ -1,7 +1,6 @@
 -- Types that are not equal, by their forms. Each answer is a case of `FitsCases`. Assumes nothing.
 use Rattle.types.proofs.FitsCases.{into_int, into_int_no, into_float, into_float_no, into_address, into_null, into_rest, into_far}
 use Rattle.types.proofs.ValueCases.{null_is}
-use borrow.Author.Rules.{rules}
 use Rattle.types.proofs.fits.fits_into.Goals as goal
 
 pub returns-then-to-eq-FORM_INT : goal.returns-then-to-eq-FORM_INT

@@ -1,6 +1,5 @@
 -- A float constant in a range, by what it folds to; a NaN fits nowhere. Each answer is a case of `FitsCases`. Assumes nothing.
 use Rattle.types.proofs.FitsCases.{float_fits-value, float_fits_nan, float_fits_nothing}
-use borrow.Author.Rules.{rules}
 use Rattle.types.proofs.fits.float_constant_fits.Goals as goal
 
 pub returns-in-Value : goal.returns-in-Value

@@ -1,6 +1,5 @@
 -- An integer constant in a range, by what it folds to. Each answer is a case of `FitsCases`. Assumes nothing.
 use Rattle.types.proofs.FitsCases.{int_fits-value, int_fits_nothing}
-use borrow.Author.Rules.{rules}
 use Rattle.types.proofs.fits.int_constant_fits.Goals as goal
 
 pub returns-in-Value : goal.returns-in-Value

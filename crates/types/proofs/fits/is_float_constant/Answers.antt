@@ -1,6 +1,5 @@
 -- Whether an expression folds to a float, a NaN too. Each answer is a case of `FitsCases`. Assumes nothing.
 use Rattle.types.proofs.FitsCases.{float_some, float_nan_some, float_none}
-use borrow.Author.Rules.{rules}
 use Rattle.types.proofs.fits.is_float_constant.Goals as goal
 
 pub returns-in-Value : goal.returns-in-Value

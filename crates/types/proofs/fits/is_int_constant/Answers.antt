@@ -1,6 +1,5 @@
 -- Whether an expression folds to an integer. Each answer is a case of `FitsCases`. Assumes nothing.
 use Rattle.types.proofs.FitsCases.{int_some, int_none}
-use borrow.Author.Rules.{rules}
 use Rattle.types.proofs.fits.is_int_constant.Goals as goal
 
 pub returns-in-Value : goal.returns-in-Value

@@ -1,6 +1,5 @@
 -- A constant of the expected form. Each answer is a case of `FitsCases`. Assumes nothing.
 use Rattle.types.proofs.FitsCases.{literal_int, literal_int_no, literal_float, literal_float_no, literal-rest}
-use borrow.Author.Rules.{rules}
 use Rattle.types.proofs.fits.is_literal.Goals as goal
 
 pub returns-then-to-eq-FORM_INT : goal.returns-then-to-eq-FORM_INT

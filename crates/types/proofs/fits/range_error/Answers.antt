@@ -1,6 +1,5 @@
 -- A literal that does not fit. Each answer is a case of `FitsCases`. Assumes nothing.
 use Rattle.types.proofs.FitsCases.{range_yes, range_no}
-use borrow.Author.Rules.{rules}
 use Rattle.types.proofs.fits.range_error.Goals as goal
 
 pub returns-then-is_literal : goal.returns-then-is_literal

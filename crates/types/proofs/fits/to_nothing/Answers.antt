@@ -2,7 +2,6 @@
 use mathlib.Core.Path.{sym, ◌∙◌}
 use borrow.Author.Tests.{eq-eqb}
 use Rattle.types.proofs.FitsCases.{nothing_right}
-use borrow.Author.Rules.{rules}
 use Rattle.types.proofs.fits.to_nothing.Goals as goal
 
 pub returns-then-reference-eq-NULL_TYPE : goal.returns-then-reference-eq-NULL_TYPE

@@ -1,7 +1,6 @@
 -- Finite and, for a short one, small: the cases of `float_fits`. By the laws of `FloatFacts`. Assumes nothing.
 use mathlib.Core.Path.{sym, ◌∙◌}
 use Rattle.types.proofs.FloatFacts.{fits-small, fits-long, fits_not}
-use borrow.Author.Rules.{rules}
 use Rattle.types.proofs.float_value.float_fits.Goals as goal
 
 pub returns-then-short : goal.returns-then-short

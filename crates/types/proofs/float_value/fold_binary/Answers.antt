@@ -1,6 +1,5 @@
 -- A binary operator on folded floats. Each answer is a case of `FoldCases`. Assumes nothing.
 use Rattle.types.proofs.FoldCases.{left-value, nan_value, nan_nan, nan_nothing, left_nothing}
-use borrow.Author.Rules.{rules}
 use Rattle.types.proofs.float_value.fold_binary.Goals as goal
 
 pub returns-in-Value : goal.returns-in-Value

@@ -1,6 +1,5 @@
 -- A unary operator on a folded float. Each answer is a case of `FoldCases`. Assumes nothing.
 use Rattle.types.proofs.FoldCases.{neg_not, neg_not_2, neg_value, neg_nan, neg_nothing}
-use borrow.Author.Rules.{rules}
 use Rattle.types.proofs.float_value.fold_neg.Goals as goal
 
 pub returns-then-op-eq-BIT_NOT : goal.returns-then-op-eq-BIT_NOT

@@ -1,6 +1,5 @@
 -- A binary operator with a float on the left. Each answer is a case of `FoldCases`. Assumes nothing.
 use Rattle.types.proofs.FoldCases.{right-value, right_nan, right_nothing}
-use borrow.Author.Rules.{rules}
 use Rattle.types.proofs.float_value.fold_right.Goals as goal
 
 pub returns-in-Value : goal.returns-in-Value

@@ -1,7 +1,6 @@
 -- A binary operator on two floats. Each answer is a case of `FoldCases`. Assumes nothing.
 use Rattle.types.specs.Floats.{float_of}
 use Rattle.types.proofs.FoldCases.{float_add, float_sub, float_mul, float_div, float_none_four}
-use borrow.Author.Rules.{rules}
 use Rattle.types.proofs.float_value.fold_two.Goals as goal
 
 pub returns-then-op-eq-ADD : goal.returns-then-op-eq-ADD

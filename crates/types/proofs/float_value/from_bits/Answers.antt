@@ -4,7 +4,6 @@ use mathlib.Core.Bool.{not}
 use denote.Floats.{passes}
 use Rattle.types.specs.Floats.{float_of}
 use Rattle.types.proofs.FloatFacts.{bits_nan}
-use borrow.Author.Rules.{rules}
 use Rattle.types.proofs.float_value.from_bits.Goals as goal
 
 pub returns-then-nan_bits : goal.returns-then-nan_bits

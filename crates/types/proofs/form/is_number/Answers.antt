@@ -1,5 +1,4 @@
 use Rattle.types.proofs.TypeCases.{number_int, number_float}
-use borrow.Author.Rules.{rules}
 use Rattle.types.proofs.form.is_number.Goals as goal
 
 pub returns-then-f-eq-FORM_INT : goal.returns-then-f-eq-FORM_INT

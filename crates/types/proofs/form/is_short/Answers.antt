@@ -3,7 +3,6 @@ use mathlib.Core.Path.{ap}
 use Prim.Native.Nat.{ℕ, ◌/◌, ◌%◌}
 use lib.Dec.{eqb}
 use Rattle.syntax.specs.Decode.{bit}
-use borrow.Author.Rules.{rules}
 use Rattle.types.proofs.form.is_short.Goals as goal
 
 pub returns : goal.returns

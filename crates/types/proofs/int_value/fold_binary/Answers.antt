@@ -1,6 +1,5 @@
 -- A binary operator on folded operands. Each answer is a case of `FoldCases`. Assumes nothing.
 use Rattle.types.proofs.FoldCases.{binary-left, binary-right, binary_two}
-use borrow.Author.Rules.{rules}
 use Rattle.types.proofs.int_value.fold_binary.Goals as goal
 
 pub returns-in-Nothing : goal.returns-in-Nothing

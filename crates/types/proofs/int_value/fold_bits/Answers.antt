@@ -1,6 +1,5 @@
 -- The three operators on bits. Each answer is a case of `FoldCases`. Assumes nothing.
 use Rattle.types.proofs.FoldCases.{two_or, two_xor, two_and}
-use borrow.Author.Rules.{rules}
 use Rattle.types.proofs.int_value.fold_bits.Goals as goal
 
 pub returns-then-op-eq-BIT_OR : goal.returns-then-op-eq-BIT_OR

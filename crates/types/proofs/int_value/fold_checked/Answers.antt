@@ -1,6 +1,5 @@
 -- The operators that may fold to nothing. Each answer is a case of `FoldCases`. Assumes nothing.
 use Rattle.types.proofs.FoldCases.{two_shl, two_shr, two_add, two_sub, two_mul, two_div, two_rem, two_none}
-use borrow.Author.Rules.{rules}
 use Rattle.types.proofs.int_value.fold_checked.Goals as goal
 
 pub returns-then-op-eq-SHL : goal.returns-then-op-eq-SHL

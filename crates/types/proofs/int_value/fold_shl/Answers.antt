@@ -2,7 +2,6 @@
 -- taken back, what was taken back is the old value, or it is not. Assumes nothing.
 use mathlib.Core.Path.{sym, ◌∙◌}
 use Rattle.types.proofs.FoldCases.{shift_nothing, back_nothing, back_same, back_other, true_false}
-use borrow.Author.Rules.{rules}
 use Rattle.types.proofs.int_value.fold_shl.Goals as goal
 
 pub returns-in_default : goal.returns-in_default

@@ -1,6 +1,5 @@
 -- A binary operator on two values. Each answer is a case of `FoldCases`, or what the callee ensures. Assumes nothing.
 use Rattle.types.proofs.FoldCases.{two_middle, two_low}
-use borrow.Author.Rules.{rules}
 use Rattle.types.proofs.int_value.fold_two.Goals as goal
 
 pub returns-then-op-gt-BIT_AND : goal.returns-then-op-gt-BIT_AND

@@ -1,6 +1,5 @@
 -- A unary operator on a folded operand. Each answer is a case of `FoldCases`. Assumes nothing.
 use Rattle.types.proofs.FoldCases.{unary-not, unary-none, unary_nothing, unary_neg}
-use borrow.Author.Rules.{rules}
 use Rattle.types.proofs.int_value.fold_unary.Goals as goal
 
 pub returns-then-op-eq-BIT_NOT : goal.returns-then-op-eq-BIT_NOT

@@ -1,7 +1,6 @@
 -- Each entry of the table has the classes that the definitions give its operator.
 -- One test over the whole table for each of the two fields, computed. Assumes nothing.
 use mathlib.Core.List.{List, [], ◌∷◌}
-use mathlib.Core.Bool.{Bool, true, false}
 use Prim.Native.Nat.{ℕ}
 use lib.ListN.{get_or}
 use Rattle.syntax.specs.Syntax.{binary_ops, Or}

@@ -1,6 +1,5 @@
 -- The size of a type that is no array, by its form. Each answer is a case of `SizeCases`. Assumes nothing.
 use Rattle.types.proofs.SizeCases.{plain_none, plain_short, plain_long, plain_byte, plain_address, plain_rest}
-use borrow.Author.Rules.{rules}
 use Rattle.types.proofs.size.plain_size.Goals as goal
 
 pub returns-then-f-lt-FORM_INT : goal.returns-then-f-lt-FORM_INT

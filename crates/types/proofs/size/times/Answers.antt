@@ -3,7 +3,6 @@
 use mathlib.Core.Path.{sym, ◌∙◌}
 use native.Mathlib.Omega.{arith}
 use Rattle.types.proofs.SizeCases.{times_nothing, over_zero, over-more, exactly-zero, product_fits, exactly-fits, exactly-over}
-use borrow.Author.Rules.{rules}
 use Rattle.types.proofs.size.times.Goals as goal
 
 pub returns-then-n-eq0 : goal.returns-then-n-eq0

@@ -1,0 +1,14 @@
+-- The loop over the cases is safe and ends: both arrays keep their length, and no more cases differ than were read.
+-- By `search rules`, and the length of an array of zeros where the loop begins; the measure is what is left up to the most cases. Assumes nothing.
+use mathlib.Core.Path.{◌≡◌}
+use Prim.Native.Nat.{ℕ, ◌≤◌, ◌-◌}
+use native.Mathlib.Omega.{arith}
+use lib.ListN.{length, replicate, length-replicate}
+use borrow.Author.Rules.{rules}
+use Rattle.convert_replay.proofs.replay.Given as goal
+
+abbrev pub invariant-loop-cases : goal.invariant-loop-cases
+invariant-loop-cases l = (length l.file ≡ 104) × (length l.head ≡ 620000) × (l.body ≤ 1000000) × (l.cases ≤ l.body)
+
+abbrev pub decreases-loop-cases : goal.decreases-loop-cases
+decreases-loop-cases l = 1000000 - l.body
