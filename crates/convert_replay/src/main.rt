@@ -171,25 +171,29 @@ fn lent_of(head: &[u8], k: usize, buffer: &[u8]) -> usize
     buffer.len()
 }
 
-// One case, over buffers with room for 2,049 records; a longer tree is there only if it is refused for its length or its buffers. True if nothing differs.
-fn replay_case(head: &[u8], tree: &[u8], text: &[u8], tables: &[u8]) -> bool
+// One case, over buffers that may be longer than what is lent of them. True if nothing differs.
+fn replay_room(
+    head: &[u8],
+    tree: &[u8],
+    text: &[u8],
+    tables: &[u8],
+    instructions: &mut [u8],
+    variables: &mut [u8],
+    labels: &mut [u8],
+    functions: &mut [u8],
+    strings: &mut [u8],
+    floats: &mut [u8],
+    scratch: &mut [u8],
+) -> bool
     requires { length head.now ≡ 104 }
 {
-    let byte = head[FILL];
-    let mut instructions = [byte; 655800];
-    let mut variables = [byte; 24700];
-    let mut labels = [byte; 49300];
-    let mut functions = [byte; 65700];
-    let mut strings = [byte; 16500];
-    let mut floats = [byte; 65700];
-    let mut scratch = [byte; 147700];
-    let a = lent_of(head, 0, &instructions);
-    let b = lent_of(head, 1, &variables);
-    let c = lent_of(head, 2, &labels);
-    let d = lent_of(head, 3, &functions);
-    let e = lent_of(head, 4, &strings);
-    let f = lent_of(head, 5, &floats);
-    let g = lent_of(head, 6, &scratch);
+    let a = lent_of(head, 0, instructions);
+    let b = lent_of(head, 1, variables);
+    let c = lent_of(head, 2, labels);
+    let d = lent_of(head, 3, functions);
+    let e = lent_of(head, 4, strings);
+    let f = lent_of(head, 5, floats);
+    let g = lent_of(head, 6, scratch);
     replay_lent(
         head,
         tree,
@@ -202,6 +206,33 @@ fn replay_case(head: &[u8], tree: &[u8], text: &[u8], tables: &[u8]) -> bool
         &mut strings[..e],
         &mut floats[..f],
         &mut scratch[..g],
+    )
+}
+
+// One case, over buffers with room for 2,049 records; a longer tree is there only if it is refused for its length or its buffers. True if nothing differs.
+fn replay_case(head: &[u8], tree: &[u8], text: &[u8], tables: &[u8]) -> bool
+    requires { length head.now ≡ 104 }
+{
+    let byte = head[FILL];
+    let mut instructions = [byte; 655800];
+    let mut variables = [byte; 24700];
+    let mut labels = [byte; 49300];
+    let mut functions = [byte; 65700];
+    let mut strings = [byte; 16500];
+    let mut floats = [byte; 65700];
+    let mut scratch = [byte; 147700];
+    replay_room(
+        head,
+        tree,
+        text,
+        tables,
+        &mut instructions,
+        &mut variables,
+        &mut labels,
+        &mut functions,
+        &mut strings,
+        &mut floats,
+        &mut scratch,
     )
 }
 

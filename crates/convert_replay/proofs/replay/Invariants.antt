@@ -8,7 +8,7 @@ use borrow.Author.Rules.{rules}
 use Rattle.convert_replay.proofs.replay.Given as goal
 
 abbrev pub invariant-loop-cases : goal.invariant-loop-cases
-invariant-loop-cases l = (length l.file ≡ 104) × (length l.head ≡ 620000) × (l.body ≤ 1000000) × (l.cases ≤ l.body)
+invariant-loop-cases l = (length l.head ≡ 104) × (length l.body ≡ 620000) × (l.cases ≤ 1000000) × (l.differ ≤ l.cases)
 
 abbrev pub decreases-loop-cases : goal.decreases-loop-cases
-decreases-loop-cases l = 1000000 - l.body
+decreases-loop-cases l = 1000000 - l.cases

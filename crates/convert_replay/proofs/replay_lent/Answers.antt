@@ -46,24 +46,3 @@ buffer_left-requires-6 c = (c.requires, below_5)
 
 pub buffer_left-requires-7 : goal.buffer_left-requires-7
 buffer_left-requires-7 c = (c.requires, below_6)
-
-pub shape_of-instructions : goal.shape_of-instructions
-shape_of-instructions c = c.rudderplum_convert-done.auto.1.1.1.0
-
-pub shape_of-variables : goal.shape_of-variables
-shape_of-variables c = c.rudderplum_convert-done.auto.1.1.1.1.0
-
-pub shape_of-labels : goal.shape_of-labels
-shape_of-labels c = c.rudderplum_convert-done.auto.1.1.1.1.1.0
-
-pub shape_of-functions : goal.shape_of-functions
-shape_of-functions c = c.rudderplum_convert-done.auto.1.1.1.1.1.1.0
-
-pub shape_of-strings : goal.shape_of-strings
-shape_of-strings c = c.rudderplum_convert-done.auto.1.1.1.1.1.1.1.0
-
-pub shape_of-floats : goal.shape_of-floats
-shape_of-floats c = c.rudderplum_convert-done.auto.1.1.1.1.1.1.1.1.0
-
-pub shape_of-scratch : goal.shape_of-scratch
-shape_of-scratch c = c.rudderplum_convert-done.auto.1.1.1.1.1.1.1.1.1.0
