@@ -1,4 +1,4 @@
-// Links the static library that `rt staticlib int128_c` writes below target/ of the repository.
+// Links the static library that `tools/staticlib int128_c` writes below target/ of the repository.
 fn main() {
     let root = std::env::var("CARGO_MANIFEST_DIR").unwrap();
     println!("cargo:rustc-link-search=native={root}/../../target/staticlib");

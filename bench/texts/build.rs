@@ -1,4 +1,4 @@
-//! Links librecords_c.a, which `rt staticlib records_c` writes to target/staticlib of the repository. RECORDS_LIB_DIR names another folder,
+//! Links librecords_c.a, which `tools/staticlib records_c` writes to target/staticlib of the repository. RECORDS_LIB_DIR names another folder,
 //! as a whole path.
 
 use std::env;

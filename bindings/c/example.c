@@ -1,7 +1,7 @@
 /*
  * Converts 'return p and q', p and q Bool parameters, and prints the body; then the same tree with a wrong record.
  *
- *   rt staticlib rudderplum
+ *   tools/staticlib rudderplum
  *   cc -std=c99 -Ibindings/c bindings/c/example.c target/staticlib/librudderplum.a -o target/example && target/example
  */
 #include <stdio.h>

@@ -2,7 +2,7 @@
  * Converts the tree and the text of two files with buffers in std::vectors, and prints what tools/convert prints. Without files it takes the
  * twelve types that open every tree, over an empty text, whose vector hands over a null pointer.
  *
- *   rt staticlib rudderplum
+ *   tools/staticlib rudderplum
  *   c++ -std=c++11 -Ibindings/c bindings/c/example.cpp target/staticlib/librudderplum.a -o target/example++ && target/example++
  */
 #include <cstdio>

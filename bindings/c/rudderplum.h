@@ -1,7 +1,7 @@
 /*
  * Rudderplum: judges trees of records, and converts them to flat bodies.
  *
- * Link with target/staticlib/librudderplum.a, which `rt staticlib rudderplum` writes (x86-64 Linux).
+ * Link with target/staticlib/librudderplum.a, which `tools/staticlib rudderplum` writes (x86-64 Linux).
  *
  * Every slice is a pointer and its length in bytes, and the pointer points to that many bytes. The buffers that a call
  * writes overlap neither each other nor the tree or the text. Where a length is 0, rudderplum_run takes a null pointer (as

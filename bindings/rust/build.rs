@@ -1,4 +1,4 @@
-//! Links librudderplum.a, which `rt staticlib rudderplum` writes to target/staticlib of the repository.
+//! Links librudderplum.a, which `tools/staticlib rudderplum` writes to target/staticlib of the repository.
 //! RUDDERPLUM_LIB_DIR names another folder that holds it; a relative one is taken from this package's folder.
 
 use std::path::PathBuf;
@@ -15,7 +15,7 @@ fn main() {
     if !archive.is_file() {
         eprintln!("rudderplum: there is no {}", archive.display());
         eprintln!(
-            "rudderplum: run `rt staticlib rudderplum`, or set RUDDERPLUM_LIB_DIR to the folder that holds the archive"
+            "rudderplum: run `tools/staticlib rudderplum`, or set RUDDERPLUM_LIB_DIR to the folder that holds the archive"
         );
         if relative {
             eprintln!(

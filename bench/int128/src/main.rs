@@ -1,7 +1,7 @@
 //! Compares the crate int128, through its static library, with Rust's i128: every operation at boundary and random
 //! operands, and the time of each. Ends with status 1 where there is a difference.
 //!
-//!     rt staticlib int128_c && cargo run --release --manifest-path bench/int128/Cargo.toml [-- PAIRS]
+//!     tools/staticlib int128_c && cargo run --release --manifest-path bench/int128/Cargo.toml [-- PAIRS]
 
 use std::hint::black_box;
 use std::time::Instant;
