@@ -36,7 +36,7 @@ const ALL: &[usize] = &[8];
 const SOME: &[usize] = &[1, 2, 3, 4, 6];
 const HIGH: &[usize] = &[1, 20, 48];
 
-pub const ATTACKS: [Attack; 37] = [
+pub const ATTACKS: [Attack; 35] = [
     Attack {
         name: "customs",
         what: "Customs with overlapping names",
@@ -126,14 +126,6 @@ pub const ATTACKS: [Attack; 37] = [
         tree: custom_suspects,
     },
     Attack {
-        name: "custom-shifted",
-        what: "Customs with overlapping names of one length and one digest, that share all up to a few bytes further on in each",
-        texts: true,
-        shares: ALL,
-        depths: &[1],
-        tree: custom_shifted,
-    },
-    Attack {
         name: "array-collisions",
         what: "array types whose words share their digest",
         texts: false,
@@ -199,19 +191,11 @@ pub const ATTACKS: [Attack; 37] = [
     },
     Attack {
         name: "overloads",
-        what: "functions of one name, and a call whose argument is one long constant",
+        what: "functions of one name, and a call whose argument is one constant, folded for each of them",
         texts: false,
         shares: SOME,
         depths: HIGH,
         tree: overloads,
-    },
-    Attack {
-        name: "overloads-third",
-        what: "the same with two short constants before the long one, which is folded for each of them",
-        texts: false,
-        shares: SOME,
-        depths: HIGH,
-        tree: overloads_third,
     },
     Attack {
         name: "one-verb",
@@ -747,49 +731,28 @@ fn type_arguments(knobs: Knobs) -> Hostile {
     tree.only(nest)
 }
 
-/// Functions of one name, each with so many unsigned parameters and one more; the last parameter of the last function is signed.
-fn unsigned_functions(tree: &mut Hostile, knobs: Knobs, verb: Text, before: usize) {
-    let each = 5 + 2 * before;
-    let count = tree.room() * knobs.share / 8 / each;
-    let windows = tree.windows(0, count + 2);
-    let name = tree.short("값");
-    for at in 0..=count {
-        let mut params = vec![(name, ULONG_TYPE); before];
-        params.push((name, if at == count { LONG_TYPE } else { ULONG_TYPE }));
-        tree.function(verb, windows.at(at), &params, LONG_TYPE, None);
-    }
-}
-
-/// A call with so many short constants, which fit, and then a long negative one, which only the last function takes. Of the foldings division is the
-/// slowest.
-fn long_constant(knobs: Knobs, before: usize) -> Hostile {
+/// All functions have the verb as name and an unsigned parameter, where a negative constant does not fit; the last takes it. Of the foldings
+/// division is the slowest.
+fn overloads(knobs: Knobs) -> Hostile {
     let mut tree = Hostile::new(knobs);
-    let verb = tree.short("부르다");
-    unsigned_functions(&mut tree, knobs, verb, before);
-    let mut args: Vec<u32> = (0..before)
-        .map(|_| {
-            let constant = tree.balanced(DIV, 2, |tree| tree.int(1, 0));
-            tree.value(constant)
-        })
-        .collect();
-    let constants = (tree.room() - 2 * knobs.depth - 20) / 2;
+    let count = tree.room() * knobs.share / 8 / 5;
+    let windows = tree.windows(0, count + 2);
+    let (verb, param) = (tree.short("부르다"), tree.short("값"));
+    for at in 0..=count {
+        let ty = if at == count { LONG_TYPE } else { ULONG_TYPE };
+        tree.function(verb, windows.at(at), &[(param, ty)], LONG_TYPE, None);
+    }
+    let above = 2 * knobs.depth;
+    let constants = (tree.room() - above - 20) / 2;
     let mut value = -1;
     let folded = tree.balanced(DIV, constants, |tree| tree.int(std::mem::replace(&mut value, 1), 0));
-    args.push(tree.value(folded));
-    let mut nest = tree.call(verb, &args);
+    let arg = tree.value(folded);
+    let mut nest = tree.call(verb, &[arg]);
     for _ in 0..knobs.depth {
         let one = tree.int(1, 0);
         nest = tree.binary(ADD, nest, one);
     }
     tree.only(nest)
-}
-
-fn overloads(knobs: Knobs) -> Hostile {
-    long_constant(knobs, 0)
-}
-
-fn overloads_third(knobs: Knobs) -> Hostile {
-    long_constant(knobs, 2)
 }
 
 /// Calls of one constant argument, as statements.
@@ -806,8 +769,13 @@ fn constant_calls(mut tree: Hostile, verb: impl Fn(usize) -> Text) -> Hostile {
 /// As `overloads`, with many calls of a short constant.
 fn one_verb(knobs: Knobs) -> Hostile {
     let mut tree = Hostile::new(knobs);
-    let verb = tree.short("부르다");
-    unsigned_functions(&mut tree, knobs, verb, 0);
+    let count = tree.room() * knobs.share / 8 / 5;
+    let windows = tree.windows(0, count + 2);
+    let (verb, param) = (tree.short("부르다"), tree.short("값"));
+    for at in 0..=count {
+        let ty = if at == count { LONG_TYPE } else { ULONG_TYPE };
+        tree.function(verb, windows.at(at), &[(param, ty)], LONG_TYPE, None);
+    }
     constant_calls(tree, |_| verb)
 }
 
@@ -960,18 +928,6 @@ fn custom_suspects(knobs: Knobs) -> Hostile {
     let count = tree.room().min(knobs.text / 2 - tree.layout.text.len());
     let windows = tree.windows(knobs.text, count);
     (0..count).for_each(|at| tree.custom(windows.at(at)));
-    tree
-}
-
-/// Windows of one length over zeros, among which stand the four bytes of the prime: wherever a window has them, its digest is that of zeros alone.
-fn custom_shifted(knobs: Knobs) -> Hostile {
-    let mut tree = Hostile::new(knobs);
-    let base = tree.layout.text.len();
-    let long = (knobs.text - base) / 2;
-    tree.layout.text.resize(knobs.text, 0);
-    tree.layout.text[base + long - 4..base + long].copy_from_slice(&(DIGEST_PRIME as u32).to_be_bytes());
-    let count = tree.room().min(long - 4);
-    (0..count as u32).for_each(|at| tree.custom((base as u32 + at, long as u32)));
     tree
 }
 
