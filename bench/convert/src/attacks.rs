@@ -931,7 +931,7 @@ fn custom_suspects(knobs: Knobs) -> Hostile {
     tree
 }
 
-/// What the library's digest multiplies by (`records/specs/Digest.antt`: `digestStep`, `digestEnd`).
+/// What the library's digest multiplies by (`records/specs/Digest.antt`: `digest_step`, `digest_end`).
 const DIGEST_FACTORS: [u64; 3] = [663_608_941, 1_013_904_223, 1_481_765_933];
 
 fn folded(x: u64) -> u64 {
