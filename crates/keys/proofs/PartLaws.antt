@@ -1,7 +1,7 @@
 -- Parts of the text against bytes, and whether a part is Latin: what a loop over its bytes shows of `is_ascii`.
 -- By the laws of texts, one byte or one block at a time. Assumes nothing.
 use mathlib.Core.Path.{◌≡◌, refl, sym, ap, ap₂, ◌∙◌}
-use mathlib.Core.Bool.{Bool, true, false, ◌&&◌, and_assoc, and-true}
+use mathlib.Core.Bool.{Bool, true, false, ◌&&◌, and_assoc, and-true, and-false}
 use mathlib.Core.List.{List, [], ◌∷◌}
 use Prim.Native.Nat.{ℕ, zero, suc, ◌+◌, ◌-◌, ◌≤◌, ◌<◌}
 use native.Mathlib.Nat.{zero-add, suc-add}
@@ -10,10 +10,12 @@ use lib.Dec.{ltb}
 use lib.ListN.{length, take, drop, get_or}
 use lib.Seq.{drop-cons, take-nil, drop-drop}
 use borrow.Author.Tests.{lt-ltb, le-ltb}
+use Rattle.std.specs.Bool.{MatchBool}
+use Rattle.std.specs.Str.{IsAscii, IsNotAscii}
 use Rattle.records.specs.Words.{text_at}
 use Rattle.conversion.specs.Ir.{same_text}
 use Rattle.conversion.specs.Functions.{is_ascii}
-use Rattle.records.proofs.TextLaws.{reach_whole, text-whole, other-lengths, first_byte}
+use Rattle.records.proofs.TextLaws.{reach_whole, text-whole, other-lengths}
 
 -- ---- a part of the text, and bytes
 
@@ -24,6 +26,22 @@ pub whole-bytes : (t b : List ℕ) (o n : ℕ) (r : Bool) → n ≡ length b →
 whole-bytes t b o n r e h = h ∙ ap (same_text (text_at t o n)) (text-whole b n e)
 
 -- ---- a part of the text: whether it is Latin
+
+-- what std's test answers of bytes
+all-latin : (x : List ℕ) → IsAscii x → true ≡ is_ascii x
+unfolding is_ascii
+all-latin [] h = refl
+all-latin (b ∷ x) h = rw (lt-ltb b 128 (h 0)) (all-latin x (λ i. h (suc i)))
+
+some-other : (x : List ℕ) (i : ℕ) → 128 ≤ get_or x i 0 → false ≡ is_ascii x
+unfolding is_ascii
+some-other [] i h = absurd (omega (arith, h))
+some-other (b ∷ x) zero h = rw (le-ltb b 128 h) refl
+some-other (b ∷ x) (suc i) h = rw (← some-other x i h) (sym (and-false (ltb b 128)))
+
+latin_told : (x : List ℕ) (r : Bool) → MatchBool r (IsAscii x) (IsNotAscii x) → r ≡ is_ascii x
+latin_told x true h = all-latin x h
+latin_told x false h = some-other x h.0 h.1
 
 latin_takes : (k m : ℕ) (x : List ℕ) → is_ascii (take (k + m) x) ≡ (is_ascii (take k x) && is_ascii (take m (drop k x)))
 unfolding is_ascii
@@ -47,21 +65,11 @@ module _ (t : List ℕ) (o n : ℕ) where
       let zn : n ≡ n - 0 = omega arith in
       ap is_ascii (ap₂ (text_at t) zo zn)
 
-  pub latin_end : (i : ℕ) → n ≤ i → Latin i → true ≡ is_ascii (text_at t o n)
-  unfolding is_ascii text_at
-  latin_end i h w = let z : n - i ≡ 0 = omega arith in sym (w ∙ rw z refl)
-
--- a byte more is Latin, or not
-module _ (t : List ℕ) (o n i : ℕ) (ho : o + n ≤ length t) (h : i < n) (w : Latin t o n i) where
-  byte : is_ascii (text_at t o n) ≡ (ltb (get_or t (o + i) 0) 128 && is_ascii (text_at t (o + (i + 1)) (n - (i + 1))))
-  unfolding is_ascii
-  byte = w ∙ ap is_ascii (first_byte t o n i h ho)
-
-  pub byte_more : get_or t (o + i) 0 < 128 → Latin t o n (i + 1)
-  byte_more e = byte ∙ rw (lt-ltb (get_or t (o + i) 0) 128 e) refl
-
-  pub byte-other : 128 ≤ get_or t (o + i) 0 → false ≡ is_ascii (text_at t o n)
-  byte-other e = sym (byte ∙ rw (le-ltb (get_or t (o + i) 0) 128 e) refl)
+  -- the m bytes that are left, as std's test answers of them
+  pub latin_rest : (i m : ℕ) (r : Bool) → m ≡ n - i → Latin i → MatchBool r (IsAscii (take m (drop (o + i) t))) (IsNotAscii (take m (drop (o + i) t)))
+      → r ≡ is_ascii (text_at t o n)
+  unfolding text_at
+  latin_rest i m r e w h = latin_told (take m (drop (o + i) t)) r h ∙ rw e (sym w)
 
 -- k bytes more are Latin, or not, as r says
 module _ (t : List ℕ) (o n i k : ℕ) (r : Bool) (fit : k ≤ n - i) (e : r ≡ is_ascii (text_at t (o + i) k)) (w : Latin t o n i) where

@@ -232,11 +232,9 @@ pub fn chain_functions(tree: &[u8], text: &[u8], scratch: &mut [u8], count: usiz
     clear_run(scratch, keys, keys + KEY_HEAD_BYTES * n);
     let names = NAME_HEADS * n;
     clear_run(scratch, names, names + NAME_HEAD_BYTES * n);
-    let mut j = 0;
-    while j < count {
+    for j in 0..count {
         let f = function_at(tree, scratch, j);
         chain_function(tree, text, scratch, f);
-        j += 1;
     }
 }
 

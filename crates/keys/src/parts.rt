@@ -73,10 +73,8 @@ fn is_ascii_block(text: &[u8], at: usize) -> bool
     ensures { result ≡ is_ascii (text_at text.now at ascii_block) }
 {
     let mut latin = true;
-    let mut i = 0;
-    while i < BLOCK {
+    for i in 0..BLOCK {
         latin = latin & (text[at + i] < 128);
-        i += 1;
     }
     latin
 }
@@ -88,18 +86,11 @@ pub fn is_ascii(text: &[u8], p: Part) -> bool
 {
     let at = p.offset;
     let n = p.len;
-    let mut i = 0;
-    while n - i >= BLOCK {
-        if !is_ascii_block(text, at + i) {
+    let blocks = n / BLOCK;
+    for b in 0..blocks {
+        if !is_ascii_block(text, at + BLOCK * b) {
             return false;
         }
-        i += BLOCK;
     }
-    while i < n {
-        if text[at + i] >= 128 {
-            return false;
-        }
-        i += 1;
-    }
-    true
+    text[at + BLOCK * blocks..at + n].is_ascii()
 }

@@ -1,27 +1,26 @@
--- The loops say what `is_ascii` says of a part: what was asked equals what is left from the byte at hand on.
--- The laws of parts at each turn, at a block or a byte that is not Latin and at the end. Assumes nothing.
+-- The loop says what `is_ascii` says of a part: what was asked equals what is left from the block at hand on.
+-- The laws of parts at each turn, at a block that is not Latin and at the end. Assumes nothing.
+use mathlib.Core.Path.{◌≡◌}
+use Prim.Native.Nat.{◌+◌, ◌-◌, ◌*◌, ◌/◌}
 use native.Mathlib.Omega.{arith}
 use Rattle.keys.specs.Parts.{ascii_block}
-use Rattle.keys.proofs.PartLaws.{latin_start, latin_end, byte_more, byte-other, block_more, block_other}
+use Rattle.keys.proofs.PartLaws.{latin_start, latin_rest, block_more, block_other}
 use Rattle.keys.proofs.parts.is_ascii.Goals as goal
 
-pub loop-i-init : goal.loop-i-init
-loop-i-init c = (omega arith, latin_start _ _ _)
+pub loop-b-init : goal.loop-b-init
+loop-b-init c = latin_start _ _ _
 
 pub returns-then-not-is_ascii_block : goal.returns-then-not-is_ascii_block
-returns-then-not-is_ascii_block c = block_other _ _ _ _ ascii_block _ (omega arith) c.is_ascii_block.ensures c.loop-i.invariant.1 c.if-not-is_ascii_block.true
+returns-then-not-is_ascii_block c = block_other _ _ _ _ ascii_block _ (omega (arith, c.loop-b-test.true)) c.is_ascii_block.ensures c.loop-b.invariant c.if-not-is_ascii_block.true
 
-pub loop-i-preserved : goal.loop-i-preserved
-loop-i-preserved c = (omega arith, block_more _ _ _ _ ascii_block _ (omega arith) c.is_ascii_block.ensures c.loop-i.invariant.1 c.if-not-is_ascii_block.false)
-
-pub loop-i-2-init : goal.loop-i-2-init
-loop-i-2-init c = c.loop-i.invariant
-
-pub returns-then-text-at-ge128 : goal.returns-then-text-at-ge128
-returns-then-text-at-ge128 c = search byte-other
-
-pub loop-i-2-preserved : goal.loop-i-2-preserved
-loop-i-2-preserved c = (omega arith, search byte_more)
+pub loop-b-preserved : goal.loop-b-preserved
+loop-b-preserved c = let next : ascii_block * c.loop-b.b + ascii_block ≡ ascii_block * (c.loop-b.b + 1) = omega arith in
+    rw next at (block_more _ _ _ _ ascii_block _ (omega (arith, c.loop-b-test.true)) c.is_ascii_block.ensures c.loop-b.invariant c.if-not-is_ascii_block.false)
 
 pub returns : goal.returns
-returns c = latin_end _ _ _ c.loop-i-2.i (omega arith) c.loop-i-2.invariant.1
+returns c = let o = c.args.p.offset in
+    let n = c.args.p.len in
+    let z : c.loop-b.b ≡ n / ascii_block = omega (arith, c.loop-b.auto.b-end, c.loop-b-test.false) in
+    let i = ascii_block * (n / ascii_block) in
+    let left : o + n - (o + i) ≡ n - i = omega arith in
+    latin_rest _ _ _ i _ _ left (rw z at c.loop-b.invariant) c.is_ascii.ensures.cases

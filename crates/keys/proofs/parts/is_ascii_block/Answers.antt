@@ -7,11 +7,11 @@ use Rattle.keys.proofs.PartLaws.{first-none, first_more}
 use Rattle.keys.proofs.parts.is_ascii_block.Goals as goal
 
 pub loop-i-init : goal.loop-i-init
-loop-i-init c = (omega arith, first-none _ _)
+loop-i-init c = first-none _ _
 
 pub loop-i-preserved : goal.loop-i-preserved
-loop-i-preserved c = (omega arith, first_more _ _ _ _ (omega arith) c.loop-i.invariant.1)
+loop-i-preserved c = first_more _ _ _ _ (omega arith) c.loop-i.invariant
 
 pub returns : goal.returns
 returns c = let z : c.loop-i.i ≡ ascii_block = omega arith in
-    rw z at c.loop-i.invariant.1
+    rw z at c.loop-i.invariant
