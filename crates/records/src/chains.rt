@@ -23,11 +23,7 @@ pub fn clear_run(scratch: &mut [u8], from: usize, to: usize)
     requires { (from ≤ to) × (to ≤ length scratch.old) }
     ensures { Cleared from to scratch.old scratch.new }
 {
-    let mut i = from;
-    while i < to {
-        scratch[i] = 0;
-        i += 1;
-    }
+    scratch[from..to].fill(0);
 }
 
 // Zero in the first n bytes, and the others as they were: no bucket has a number yet.

@@ -5,59 +5,41 @@ ghost use Rattle.records.specs.Chains.{ChainRoom};
 ghost use Rattle.records.specs.Order.{common as common_of, Agrees, record_text, Leads, PlaceOf, placed_at};
 
 use crate::layout::{CHAIN_ENTRY_BYTES, CHAIN_HEAD_BYTES};
-use crate::texts::{reach, same_eight, same_sixty_four, same_text};
+use crate::texts::{reach, same_eights, same_text};
 use crate::words::{SECOND_WORD, WORD_A, WORD_B, index, load, put_pair, put_word, word};
 
-// How many of n bytes from a and from b on agree, where the first `from` do: singly.
-fn common_singly(text: &[u8], a: usize, b: usize, n: usize, from: usize) -> usize
-    requires { (0 < n → (a + n ≤ length text.now) × (b + n ≤ length text.now)) × (from ≤ common_of (text_at text.now a n) (text_at text.now b n)) }
-    ensures { result ≡ common_of (text_at text.now a n) (text_at text.now b n) }
+// As far as parts of N eights agree: how many of n bytes are sure to, where the first `from` do.
+fn common_parts<const N: usize>(text: &[u8], a: usize, b: usize, n: usize, from: usize) -> usize
+    requires { (0 < n → (a + n ≤ length text.now) × (b + n ≤ length text.now)) × (0 < N) × (N ≤ 8) × (from ≤ common_of (text_at text.now a n) (text_at text.now b n)) }
+    ensures { result ≤ common_of (text_at text.now a n) (text_at text.now b n) }
 {
     let mut k = from;
-    while k < n {
-        if text[a + k] != text[b + k] {
-            return k;
-        }
-        k += 1;
+    while n - k >= 8 * N && same_eights::<N>(text, a + k, text, b + k) {
+        k += 8 * N;
     }
-    n
+    k
 }
 
-// The same by eights, and the rest singly.
-fn common_eights(text: &[u8], a: usize, b: usize, n: usize, from: usize) -> usize
-    requires { (0 < n → (a + n ≤ length text.now) × (b + n ≤ length text.now)) × (from ≤ common_of (text_at text.now a n) (text_at text.now b n)) }
-    ensures { result ≡ common_of (text_at text.now a n) (text_at text.now b n) }
-{
-    let mut k = from;
-    while n - k >= 8 {
-        if !same_eight(text, a + k, text, b + k) {
-            return common_singly(text, a, b, n, k);
-        }
-        k += 8;
-    }
-    common_singly(text, a, b, n, k)
-}
-
-// How many of n bytes from a and from b on agree, where the first `from` do: by eight eights, and the rest by eights.
+// How many of n bytes from a and from b on agree, where the first `from` do: by eight eights, by eights, and singly.
 pub fn common(text: &[u8], a: usize, b: usize, n: usize, from: usize) -> usize
     requires { (0 < n → (a + n ≤ length text.now) × (b + n ≤ length text.now)) × (from ≤ common_of (text_at text.now a n) (text_at text.now b n)) }
     ensures { result ≡ common_of (text_at text.now a n) (text_at text.now b n) }
 {
-    let mut k = from;
-    while n - k >= 64 {
-        if !same_sixty_four(text, a + k, text, b + k) {
-            return common_eights(text, a, b, n, k);
+    let long = common_parts::<8>(text, a, b, n, from);
+    let short = common_parts::<1>(text, a, b, n, long);
+    for k in short..n {
+        if text[a + k] != text[b + k] {
+            return k;
         }
-        k += 64;
     }
-    common_eights(text, a, b, n, k)
+    n
 }
 
 // The lesser of two numbers.
 pub fn least(x: usize, y: usize) -> usize
     ensures { result ≡ min x y }
 {
-    if x < y { x } else { y }
+    x.min(y)
 }
 
 // How far two texts agree, and whether they are the same.
@@ -76,15 +58,13 @@ fn agreed(text: &[u8], a: u32, n: u32, b: u32, m: u32, from: u32) -> Agreement
     let j = b as usize;
     let x = reach(text, i, n as usize);
     let y = reach(text, j, m as usize);
-    if from == 0 {
-        if same_text(text, a, n, b, m) {
-            return Agreement {
-                bytes: x as u32,
-                whole: true,
-            };
-        }
+    if from == 0 && same_text(text, a, n, b, m) {
+        return Agreement {
+            bytes: x as u32,
+            whole: true,
+        };
     }
-    let bytes = common(text, i, j, least(x, y), from as usize);
+    let bytes = common(text, i, j, x.min(y), from as usize);
     Agreement {
         bytes: bytes as u32,
         whole: (bytes == x) & (bytes == y),

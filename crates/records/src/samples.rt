@@ -20,10 +20,8 @@ fn roll_power(n: usize) -> u32
     ensures { (result ≡ roll_power n) × (result < roll_modulus) }
 {
     let mut x: u32 = 1;
-    let mut i = 0;
-    while i < n {
+    for _i in 0..n {
         x = roll_byte(x, 0);
-        i += 1;
     }
     x
 }
