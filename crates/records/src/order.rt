@@ -6,7 +6,7 @@ ghost use Rattle.records.specs.Order.{common as common_of, Agrees, record_text, 
 
 use crate::layout::{CHAIN_ENTRY_BYTES, CHAIN_HEAD_BYTES};
 use crate::texts::{reach, same_eights, same_text};
-use crate::words::{SECOND_WORD, WORD_A, WORD_B, index, load, put_pair, put_word, word};
+use crate::words::{SECOND_WORD, WORD_A, WORD_B, load, put_pair, put_word, word};
 
 // As far as parts of N eights agree: how many of n bytes are sure to, where the first `from` do.
 fn common_parts<const N: usize>(text: &[u8], a: usize, b: usize, n: usize, from: usize) -> usize
@@ -90,24 +90,13 @@ fn records_agree(tree: &[u8], text: &[u8], k: usize, r: usize, from: u32) -> Agr
 }
 
 // Where a record belongs in a chain: the entry that has its text, or itself; and then where the link that is to lead to it stands, and how far its text agrees
-// with that of the entry before. Beside it, how many entries were passed, of which no more than so many are counted.
+// with that of the entry before. Beside it, how many entries were passed.
 #[derive(Clone, Copy)]
 pub struct ChainPlace {
     pub number: usize,
     pub at: usize,
     pub shared: u32,
     pub passed: u32,
-}
-
-// More than this are not counted. Whoever asks whether more than so many were passed must ask for a number below this, as FAR in chains.rt is.
-const MOST_PASSED: u32 = 64;
-
-// One entry more is passed.
-fn one_more(passed: u32) -> u32 {
-    if passed < MOST_PASSED {
-        return passed + 1;
-    }
-    passed
 }
 
 // The chain is walked from the link at `head` on. An entry tells how far its text agrees with that of the one before: only where r's text agrees just as far
@@ -128,7 +117,7 @@ pub fn find_place(
     let mut at = head;
     let mut shared: u32 = 0;
     let mut passed: u32 = 0;
-    let mut link = index(load(scratch, at));
+    let mut link = load(scratch, at) as usize;
     while link > 0 {
         let k = link - 1;
         let e = CHAIN_HEAD_BYTES * n + CHAIN_ENTRY_BYTES * k;
@@ -136,9 +125,9 @@ pub fn find_place(
         if before < shared {
             return ChainPlace {
                 number: r,
-                at: at,
-                shared: shared,
-                passed: passed,
+                at,
+                shared,
+                passed,
             };
         }
         if before == shared {
@@ -146,22 +135,22 @@ pub fn find_place(
             if a.whole {
                 return ChainPlace {
                     number: k,
-                    at: at,
-                    shared: shared,
-                    passed: passed,
+                    at,
+                    shared,
+                    passed,
                 };
             }
             shared = a.bytes;
         }
         at = e + SECOND_WORD;
-        link = index(load(scratch, at));
-        passed = one_more(passed);
+        link = load(scratch, at) as usize;
+        passed = passed.saturating_add(1);
     }
     ChainPlace {
         number: r,
-        at: at,
-        shared: shared,
-        passed: passed,
+        at,
+        shared,
+        passed,
     }
 }
 

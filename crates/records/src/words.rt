@@ -100,7 +100,7 @@ pub fn reference(tree: &[u8], r: usize, k: usize) -> usize
     requires k_bound { k ≤ 4 }
     ensures { result ≡ word_of tree.now r k }
 {
-    index(word(tree, r, k))
+    word(tree, r, k) as usize
 }
 
 pub fn low(x: u64) -> u32
