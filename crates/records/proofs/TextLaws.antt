@@ -121,14 +121,10 @@ pub same_split : (t u : List ℕ) (a b k m : ℕ)
 unfolding text_at
 same_split t u a b k m = same_takes k m (drop a t) (drop b u) ∙ rw (drop-drop k a t, drop-drop k b u) refl
 
--- two parts of one size
-pub same-joined : (t u : List ℕ) (i j k : ℕ) (p q : Bool) → p ≡ same_text (text_at t i k) (text_at u j k)
-    → q ≡ same_text (text_at t (i + k) k) (text_at u (j + k) k) → (p && q) ≡ same_text (text_at t i (k + k)) (text_at u j (k + k))
-same-joined t u i j k p q ep eq = ap₂ ◌&&◌ ep eq ∙ sym (same_split t u i j k k)
-
--- what was asked of n bytes from a and from b on is what is left, m bytes from i and from j on
-abbrev pub Left : List ℕ → ℕ → List ℕ → ℕ → ℕ → ℕ → ℕ → ℕ → Type 0
-Left t a u b n i j m = (i + m ≤ length t) × (j + m ≤ length u) × (same_text (text_at t a n) (text_at u b n) ≡ same_text (text_at t i m) (text_at u j m))
+-- k bytes, and m behind them, are n
+pub same-joined : (t u : List ℕ) (i j k m n : ℕ) (p q : Bool) → n ≡ k + m → p ≡ same_text (text_at t i k) (text_at u j k)
+    → q ≡ same_text (text_at t (i + k) m) (text_at u (j + k) m) → (p && q) ≡ same_text (text_at t i n) (text_at u j n)
+same-joined t u i j k m n p q e ep eq = rw e (ap₂ ◌&&◌ ep eq ∙ sym (same_split t u i j k m))
 
 -- where x is what is left of n bytes: k bytes more are the same, or not
 module _ (t u : List ℕ) (i j n k : ℕ) (x r : Bool) (fit : k ≤ n) (e : r ≡ same_text (text_at t i k) (text_at u j k))
@@ -163,6 +159,21 @@ module _ (t u : List ℕ) (a b n : ℕ) where
   pub byte_last : (k : ℕ) → n ≤ k → Same (min k n) → true ≡ same_text (text_at t a n) (text_at u b n)
   unfolding same_text text_at
   byte_last k h w = let z : n - min k n ≡ 0 = omega arith in sym (w ∙ rw z refl)
+
+  -- k bytes behind the first i are the same, or not
+  pub same-on : (i k j : ℕ) (r : Bool) → j ≡ i + k → k ≤ n - i → r ≡ same_text (text_at t (a + i) k) (text_at u (b + i) k) → r ≡ true → Same i → Same j
+  same-on i k j r ej h e y w =
+      let za : a + i + k ≡ a + j = omega arith in
+      let zb : b + i + k ≡ b + j = omega arith in
+      let zn : n - i - k ≡ n - j = omega arith in
+      part-more t u (a + i) (b + i) (n - i) k _ r h e w y ∙ rw (za, zb, zn) refl
+
+  pub same-off : (i k : ℕ) (r : Bool) → k ≤ n - i → r ≡ same_text (text_at t (a + i) k) (text_at u (b + i) k) → r ≡ false → Same i
+      → false ≡ same_text (text_at t a n) (text_at u b n)
+  same-off i k r h e y w = part-other t u (a + i) (b + i) (n - i) k _ r h e w y
+
+  pub same_met : (i j : ℕ) → j ≡ i → Same i → Same j
+  same_met i j e w = rw e w
 
 module _ (t u : List ℕ) (a b n k : ℕ) (ha : a + n ≤ length t) (hb : b + n ≤ length u) (h : k < n) (w : Same t u a b n (min k n)) where
   byte : same_text (text_at t a n) (text_at u b n)
