@@ -13,12 +13,12 @@ use Rattle.int128.proofs.Compare.{leb_not}
 use borrow.Author.Rules.{rules}
 use Rattle.int128.proofs.quotient.at_most.Goals as goal
 
-pub returns-in-Fits : goal.returns-in-Fits
-returns-in-Fits c = let s = c.args in
+pub returns-in-Some : goal.returns-in-Some
+returns-in-Some c = let s = c.args in
     ap not c.below.ensures
     ∙ leb_not _ (bits_of s.n)
-    ∙ ap (λ (k : ℕ). leb k (bits_of s.n)) (subst (IsProduct _) c.in-Fits.is c.mul_word.ensures)
+    ∙ ap (λ (k : ℕ). leb k (bits_of s.n)) (subst (IsProduct _) c.in-Some.is c.mul_word.ensures)
 
-pub returns-in-Over : goal.returns-in-Over
-returns-in-Over c = let s = c.args in
-    sym (lt-leb (bits_of s.d * s.q) (bits_of s.n) (lt_of_lt_of_le (fits s.n (search rules)) (subst (IsProduct _) c.in-Over.is c.mul_word.ensures)))
+pub returns-in-None : goal.returns-in-None
+returns-in-None c = let s = c.args in
+    sym (lt-leb (bits_of s.d * s.q) (bits_of s.n) (lt_of_lt_of_le (fits s.n (search rules)) (subst (IsProduct _) c.in-None.is c.mul_word.ensures)))
