@@ -7,7 +7,7 @@ ghost use Rattle.int128.specs.Ops.{div_of, rem_of};
 
 use super::Int128;
 use super::magnitude::{magnitude, negative, signed};
-use super::order::below;
+use super::order::cmp_bits;
 use super::product::{BASE, mul_word};
 use super::shifts::{shl_bits, shr_bits};
 
@@ -46,7 +46,7 @@ fn at_most(d: Int128, q: u64, n: Int128) -> bool
     ensures { result ≡ leb (bits_of d * q) (bits_of n) }
 {
     match mul_word(d, q) {
-        Some(p) => !below(n, p),
+        Some(p) => cmp_bits(p, n).is_le(),
         None => false,
     }
 }

@@ -67,7 +67,7 @@ impl Int128 {
             if self.hi < SIGN {
                 return Some(shr_bits(self, n));
             }
-            return Some(shr_bits(self.not(), n).not());
+            return Some(!shr_bits(!self, n));
         }
         None
     }

@@ -1,7 +1,7 @@
-// Sum, difference, negation and complement.
+// Sum, difference and negation.
 ghost use Rattle.std.specs.Prelude.{◌≡◌, ◌+◌, ◌*◌, ◌≤◌, ◌^◌, pos, ◌+ℤ◌};
 ghost use Rattle.int128.specs.Value.{value_of, checked_of};
-ghost use Rattle.int128.specs.Ops.{exact, add_of, sub_of, neg_of, not_of};
+ghost use Rattle.int128.specs.Ops.{exact, add_of, sub_of, neg_of};
 
 use super::{Int128, SIGN};
 
@@ -70,16 +70,6 @@ fn sum(a: Int128, b: Int128, carry: u64) -> Option<Int128>
 }
 
 impl Int128 {
-    // Each bit the other way.
-    pub fn not(self) -> Int128
-        ensures { value_of result ≡ not_of (value_of self) }
-    {
-        Int128 {
-            hi: !self.hi,
-            lo: !self.lo,
-        }
-    }
-
     pub fn checked_add(self, other: Int128) -> Option<Int128>
         ensures { checked_of result ≡ add_of (value_of self) (value_of other) }
     {
@@ -90,13 +80,13 @@ impl Int128 {
     pub fn checked_sub(self, other: Int128) -> Option<Int128>
         ensures { checked_of result ≡ sub_of (value_of self) (value_of other) }
     {
-        sum(self, other.not(), 1)
+        sum(self, !other, 1)
     }
 
     // -a is 0 + !a + 1.
     pub fn checked_neg(self) -> Option<Int128>
         ensures { checked_of result ≡ neg_of (value_of self) }
     {
-        sum(Int128::from_u64(0), self.not(), 1)
+        sum(Int128::from(0u64), !self, 1)
     }
 }

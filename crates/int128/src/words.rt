@@ -7,10 +7,10 @@ ghost use Rattle.int128.specs.Ops.{to_u64_of, to_i64_of};
 
 use super::{Int128, SIGN};
 
-impl Int128 {
-    pub fn from_i64(x: i64) -> Int128
-        ensures { value_of result ≡ x }
-    {
+impl From<i64> for Int128 {
+    ghost from_gives = { λ x r. value_of r ≡ x };
+
+    fn from(x: i64) -> Int128 {
         if x < 0 {
             let n = (-1 - x) as u64;
             return Int128 {
@@ -23,13 +23,17 @@ impl Int128 {
             lo: x as u64,
         }
     }
+}
 
-    pub fn from_u64(x: u64) -> Int128
-        ensures { value_of result ≡ pos x }
-    {
+impl From<u64> for Int128 {
+    ghost from_gives = { λ x r. value_of r ≡ pos x };
+
+    fn from(x: u64) -> Int128 {
         Int128 { hi: 0, lo: x }
     }
+}
 
+impl Int128 {
     // The number that 64 bits stand for in two's complement.
     pub fn from_i64_bits(bits: u64) -> Int128
         ensures { value_of result ≡ to_z w64 bits }
