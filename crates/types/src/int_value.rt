@@ -20,7 +20,7 @@ fn fold_unary(op: u8, value: Option<Int128>) -> Option<Int128>
 {
     let v = value?;
     if op == BIT_NOT {
-        return Some(v.not());
+        return Some(!v);
     }
     if op == NOT {
         return None;
@@ -34,12 +34,12 @@ fn fold_bits(op: u8, left: Int128, right: Int128) -> Int128
     ensures { some (value_of result) ≡ fold_two (get_or binary_ops op Or) (value_of left) (value_of right) }
 {
     if op == BIT_OR {
-        return left.bitor(right);
+        return left | right;
     }
     if op == BIT_XOR {
-        return left.bitxor(right);
+        return left ^ right;
     }
-    left.bitand(right)
+    left & right
 }
 
 // The shifted value, where taken back by the same count it gives the old one: a shift that loses bits folds to nothing.
@@ -48,7 +48,7 @@ fn fold_shl(left: Int128, right: Int128) -> Option<Int128>
 {
     let v = left.checked_shl_by(right)?;
     let back = v.checked_shr_by(right)?;
-    if back.eq(left) {
+    if back == left {
         return Some(v);
     }
     None
