@@ -44,30 +44,27 @@ module _ (o : Option ℤ) (x : Std.Option Int128) (ex : checked_of x ≡ o) wher
       told (Some v) = refl
       told None = refl
 
-module _ (o : Option Float) (x : FloatValue) (ex : float_of x ≡ o) where
-  pub float_fits-value : (v : Float) → x ≡ F.Value v → (s a r : Bool) → s ≡ a → r ≡ float_fits v s → r ≡ some_and o (λ z. float_fits z a)
+module _ (o : Option Float) (x : Std.Option FloatValue) (ex : float_of x ≡ o) where
+  pub float_fits-value : (v : Float) → x ≡ Some (F.Value v) → (s a r : Bool) → s ≡ a → r ≡ float_fits v s → r ≡ some_and o (λ z. float_fits z a)
   unfolding some_and float_of
   float_fits-value v e s a r es er = rw (← ex, e, ← es) er
 
-  pub float_fits_nan : x ≡ F.Nan → (a : Bool) → false ≡ some_and o (λ z. float_fits z a)
+  pub float_fits_nan : x ≡ Some F.Nan → (a : Bool) → false ≡ some_and o (λ z. float_fits z a)
   unfolding some_and float_of float_fits
   float_fits_nan e a = rw (← ex, e)
 
-  pub float_fits_nothing : x ≡ F.Nothing → (p : Float → Bool) → false ≡ some_and o p
+  pub float_fits_nothing : x ≡ None → (p : Float → Bool) → false ≡ some_and o p
   unfolding some_and float_of
   float_fits_nothing e p = rw (← ex, e)
 
-  pub float_some : (v : Float) → x ≡ F.Value v → true ≡ is_some o
+  pub float-is_some : Std.is_some x ≡ is_some o
   unfolding is_some some_and float_of
-  float_some v e = rw (← ex, e)
-
-  pub float_nan_some : x ≡ F.Nan → true ≡ is_some o
-  unfolding is_some some_and float_of
-  float_nan_some e = rw (← ex, e)
-
-  pub float_none : x ≡ F.Nothing → false ≡ is_some o
-  unfolding is_some some_and float_of
-  float_none e = rw (← ex, e)
+  float-is_some = told x ∙ ap is_some ex
+    where
+      told : (y : Std.Option FloatValue) → Std.is_some y ≡ is_some (float_of y)
+      told (Some (F.Value v)) = refl
+      told (Some F.Nan) = refl
+      told None = refl
 
 -- ---- a type of another form
 

@@ -180,7 +180,7 @@ module _ (op : ℕ) where
     binary_two w ey r e = rw (ex, ey) e
 
   -- ---- floats
-  module _ (x : FloatValue) where
+  module _ (x : Std.Option FloatValue) where
     unless_neg : (o : UnaryOp) → (k : ℕ) → 1 ≤ k → k ≤ 2 → none ≡ neg_float (get_or unary_ops k Neg) (float_of x)
     unfolding neg_float
     unless_neg o zero h l = absurd (omega arith)
@@ -196,40 +196,40 @@ module _ (op : ℕ) where
         flip (some v) = refl
     unless_neg o (suc (suc (suc k))) h l = absurd (omega arith)
 
-    pub neg_not : op ≡ 1 → float_of F.Nothing ≡ neg_float (get_or unary_ops op Neg) (float_of x)
+    pub neg_not : op ≡ 1 → float_of None ≡ neg_float (get_or unary_ops op Neg) (float_of x)
     unfolding float_of
     neg_not e = unless_neg Neg op (omega arith) (omega arith)
 
-    pub neg_not_2 : op ≡ 2 → float_of F.Nothing ≡ neg_float (get_or unary_ops op Neg) (float_of x)
+    pub neg_not_2 : op ≡ 2 → float_of None ≡ neg_float (get_or unary_ops op Neg) (float_of x)
     unfolding float_of
     neg_not_2 e = unless_neg Neg op (omega arith) (omega arith)
 
     module _ (n₁ : op ≡ 1 → ⊥) (n₂ : op ≡ 2 → ⊥) where
-      pub neg_value : (v : Float) → x ≡ F.Value v → float_of (F.Value (Ieee.neg v)) ≡ neg_float (get_or unary_ops op Neg) (float_of x)
+      pub neg_value : (v : Float) → x ≡ Some (F.Value v) → float_of (Some (F.Value (Ieee.neg v))) ≡ neg_float (get_or unary_ops op Neg) (float_of x)
       unfolding float_of neg_float
       neg_value v e = rw (e, neg_is op n₁ n₂)
 
-      pub neg_nan : x ≡ F.Nan → float_of F.Nan ≡ neg_float (get_or unary_ops op Neg) (float_of x)
+      pub neg_nan : x ≡ Some F.Nan → float_of (Some F.Nan) ≡ neg_float (get_or unary_ops op Neg) (float_of x)
       unfolding float_of neg_float Ieee.neg
       neg_nan e = rw (e, neg_is op n₁ n₂)
 
-      pub neg_nothing : x ≡ F.Nothing → float_of F.Nothing ≡ neg_float (get_or unary_ops op Neg) (float_of x)
+      pub neg_nothing : x ≡ None → float_of None ≡ neg_float (get_or unary_ops op Neg) (float_of x)
       unfolding float_of neg_float
       neg_nothing e = rw e
 
-  pub float_add : op ≡ 13 → (a b : Float) (r : FloatValue) → float_of r ≡ some (Ieee.add binary64 a b) → float_of r ≡ float_two (get_or binary_ops op Or) a b
+  pub float_add : op ≡ 13 → (a b : Float) (r : Std.Option FloatValue) → float_of r ≡ some (Ieee.add binary64 a b) → float_of r ≡ float_two (get_or binary_ops op Or) a b
   unfolding float_two
   float_add e a b r q = rw e q
 
-  pub float_sub : op ≡ 14 → (a b : Float) (r : FloatValue) → float_of r ≡ some (Ieee.sub binary64 a b) → float_of r ≡ float_two (get_or binary_ops op Or) a b
+  pub float_sub : op ≡ 14 → (a b : Float) (r : Std.Option FloatValue) → float_of r ≡ some (Ieee.sub binary64 a b) → float_of r ≡ float_two (get_or binary_ops op Or) a b
   unfolding float_two
   float_sub e a b r q = rw e q
 
-  pub float_mul : op ≡ 15 → (a b : Float) (r : FloatValue) → float_of r ≡ some (Ieee.mul binary64 a b) → float_of r ≡ float_two (get_or binary_ops op Or) a b
+  pub float_mul : op ≡ 15 → (a b : Float) (r : Std.Option FloatValue) → float_of r ≡ some (Ieee.mul binary64 a b) → float_of r ≡ float_two (get_or binary_ops op Or) a b
   unfolding float_two
   float_mul e a b r q = rw e q
 
-  pub float_div : op ≡ 16 → (a b : Float) (r : FloatValue) → float_of r ≡ some (Ieee.div binary64 a b) → float_of r ≡ float_two (get_or binary_ops op Or) a b
+  pub float_div : op ≡ 16 → (a b : Float) (r : Std.Option FloatValue) → float_of r ≡ some (Ieee.div binary64 a b) → float_of r ≡ float_two (get_or binary_ops op Or) a b
   unfolding float_two
   float_div e a b r q = rw e q
 
@@ -284,40 +284,37 @@ module _ (op : ℕ) (h : 13 ≤ op) (l : op ≤ 16) where
       (λ i. ap some (nan_div x), (λ i. ap some (nan_mul x), (λ i. ap some (nan_sub x), (λ i. ap some (nan_add x), (λ i. absurd (omega arith), (λ i. absurd (omega arith), (λ i. absurd (omega arith), (λ i. absurd (omega arith), (λ i. absurd (omega arith), (λ i. absurd (omega arith), (λ i. absurd (omega arith), (λ i. absurd (omega arith), (λ i. absurd (omega arith), (λ i. absurd (omega arith), (λ i. absurd (omega arith), (λ i. absurd (omega arith), (λ i. absurd (omega arith), tt))))))))))))))))) op (omega arith) h
 
 module _ (op : ℕ) where
-  module _ (x : Float) (y : FloatValue) where
-    pub right-value : (v : Float) → y ≡ F.Value v → (r : FloatValue) → float_of r ≡ float_two (get_or binary_ops op Or) x v
+  module _ (x : Float) (y : Std.Option FloatValue) where
+    pub right-value : (v : Float) → y ≡ Some (F.Value v) → (r : Std.Option FloatValue) → float_of r ≡ float_two (get_or binary_ops op Or) x v
         → float_of r ≡ float_binary (get_or binary_ops op Or) (some x) (float_of y)
     unfolding float_binary float_of
     right-value v e r q = rw e q
 
-    pub right_nan : y ≡ F.Nan → (r : FloatValue) → ((x : Float) → float_of r ≡ float_two (get_or binary_ops op Or) x nan)
+    pub right_nan : y ≡ Some F.Nan → (r : Std.Option FloatValue) → ((x : Float) → float_of r ≡ float_two (get_or binary_ops op Or) x nan)
         → float_of r ≡ float_binary (get_or binary_ops op Or) (some x) (float_of y)
     unfolding float_binary float_of
     right_nan e r q = rw e (q x)
 
-    pub right_nothing : y ≡ F.Nothing → float_of F.Nothing ≡ float_binary (get_or binary_ops op Or) (some x) (float_of y)
+    pub right_nothing : y ≡ None → float_of None ≡ float_binary (get_or binary_ops op Or) (some x) (float_of y)
     unfolding float_binary float_of
     right_nothing e = rw e
 
-  module _ (x y : FloatValue) where
-    pub left-value : (v : Float) → x ≡ F.Value v → (r : FloatValue) → float_of r ≡ float_binary (get_or binary_ops op Or) (some v) (float_of y)
+  module _ (x y : Std.Option FloatValue) where
+    pub left-value : (v : Float) → x ≡ Some (F.Value v) → (r : Std.Option FloatValue) → float_of r ≡ float_binary (get_or binary_ops op Or) (some v) (float_of y)
         → float_of r ≡ float_binary (get_or binary_ops op Or) (float_of x) (float_of y)
     unfolding float_of
     left-value v e r q = rw e q
 
-    pub left_nothing : x ≡ F.Nothing → float_of F.Nothing ≡ float_binary (get_or binary_ops op Or) (float_of x) (float_of y)
+    pub left_nothing : x ≡ None → float_of None ≡ float_binary (get_or binary_ops op Or) (float_of x) (float_of y)
     unfolding float_binary float_of
     left_nothing e = rw e
 
-    module _ (ex : x ≡ F.Nan) (r : FloatValue) (q : (y : Float) → float_of r ≡ float_two (get_or binary_ops op Or) nan y) where
-      pub nan_value : (v : Float) → y ≡ F.Value v → float_of r ≡ float_binary (get_or binary_ops op Or) (float_of x) (float_of y)
+    module _ (ex : x ≡ Some F.Nan) (r : Std.Option FloatValue) (q : (y : Float) → float_of r ≡ float_two (get_or binary_ops op Or) nan y) where
+      pub nan_some : (w : FloatValue) → y ≡ Some w → float_of r ≡ float_binary (get_or binary_ops op Or) (float_of x) (float_of y)
       unfolding float_binary float_of
-      nan_value v e = rw (ex, e) (q v)
+      nan_some (F.Value v) e = rw (ex, e) (q v)
+      nan_some F.Nan e = rw (ex, e) (q nan)
 
-      pub nan_nan : y ≡ F.Nan → float_of r ≡ float_binary (get_or binary_ops op Or) (float_of x) (float_of y)
-      unfolding float_binary float_of
-      nan_nan e = rw (ex, e) (q nan)
-
-    pub nan_nothing : x ≡ F.Nan → y ≡ F.Nothing → float_of F.Nothing ≡ float_binary (get_or binary_ops op Or) (float_of x) (float_of y)
+    pub nan_nothing : x ≡ Some F.Nan → y ≡ None → float_of None ≡ float_binary (get_or binary_ops op Or) (float_of x) (float_of y)
     unfolding float_binary float_of
     nan_nothing ex e = rw (ex, e)

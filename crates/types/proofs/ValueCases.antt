@@ -29,7 +29,6 @@ use Rattle.syntax.proofs.Unfold.{node-is}
 use Rattle.syntax.proofs.Cases.{child_in, child-out, int_case, float_case}
 use Rattle.conversion.specs.Types.{fold_unary, fold_binary, int_value, neg_float, float_binary, float_value, is_null_literal}
 use Rattle.types.specs.declared.float_value.FloatValue.{FloatValue}
-use Rattle.types.specs.declared.float_value.FloatValue.TheVariants as F
 use Rattle.types.specs.Floats.{float_of}
 use Rattle.types.proofs.Tables.{at_each, past, below_or_not}
 
@@ -93,12 +92,12 @@ module _ (tree text : List ℕ) (r k : ℕ) (ek : k ≡ kind_of tree r) where
     unfolding int_value expr_of fold_unary
     int_unary-out h = rw (unary_any q, not_lower A a ea h)
 
-    pub float_unary : a < r → (d : ℕ) → d ≡ detail_of tree r → (x v : FloatValue) → float_of x ≡ float_value (expr_of (node tree text a))
+    pub float_unary : a < r → (d : ℕ) → d ≡ detail_of tree r → (x v : Std.Option FloatValue) → float_of x ≡ float_value (expr_of (node tree text a))
         → float_of v ≡ neg_float (get_or unary_ops d Neg) (float_of x) → float_of v ≡ float_value (expr_of (node tree text r))
     unfolding float_value expr_of
     float_unary h d ed x v ex ev = rw (unary_any q, lower A a ea h, ← ed, ← ex) ev
 
-    pub float_unary-out : r ≤ a → float_of F.Nothing ≡ float_value (expr_of (node tree text r))
+    pub float_unary-out : r ≤ a → float_of None ≡ float_value (expr_of (node tree text r))
     unfolding float_value expr_of neg_float float_of
     float_unary-out h = rw (unary_any q, not_lower A a ea h)
 
@@ -117,17 +116,17 @@ module _ (tree text : List ℕ) (r k : ℕ) (ek : k ≡ kind_of tree r) where
     unfolding int_value expr_of
     int_right_out h = rw (binary_any q, not_lower B b eb h) (sym (two_none (get_or binary_ops (detail_of tree r) Or) (int_value (expr_of (child tree text (node tree text) r A)))))
 
-    pub float_binary_lem : a < r → b < r → (d : ℕ) → d ≡ detail_of tree r → (x y v : FloatValue) → float_of x ≡ float_value (expr_of (node tree text a))
+    pub float_binary_lem : a < r → b < r → (d : ℕ) → d ≡ detail_of tree r → (x y v : Std.Option FloatValue) → float_of x ≡ float_value (expr_of (node tree text a))
         → float_of y ≡ float_value (expr_of (node tree text b)) → float_of v ≡ float_binary (get_or binary_ops d Or) (float_of x) (float_of y)
         → float_of v ≡ float_value (expr_of (node tree text r))
     unfolding float_value expr_of
     float_binary_lem h l d ed x y v ex ey ev = rw (binary_any q, lower A a ea h, lower B b eb l, ← ed, ← ex, ← ey) ev
 
-    pub float_left_out : r ≤ a → float_of F.Nothing ≡ float_value (expr_of (node tree text r))
+    pub float_left_out : r ≤ a → float_of None ≡ float_value (expr_of (node tree text r))
     unfolding float_value expr_of float_binary float_of
     float_left_out h = rw (binary_any q, not_lower A a ea h)
 
-    pub float_right_out : r ≤ b → float_of F.Nothing ≡ float_value (expr_of (node tree text r))
+    pub float_right_out : r ≤ b → float_of None ≡ float_value (expr_of (node tree text r))
     unfolding float_value expr_of float_of
     float_right_out h = rw (binary_any q, not_lower B b eb h) (sym (float_two-none (get_or binary_ops (detail_of tree r) Or) (float_value (expr_of (child tree text (node tree text) r A)))))
 
@@ -140,12 +139,12 @@ module _ (tree text : List ℕ) (r k : ℕ) (ek : k ≡ kind_of tree r) where
       go false e = sym (no_value n₂ (eqb-false k 3 e) n₉ n₁₀).0
 
   -- ---- float_value
-  pub float_is : k ≡ 3 → (b : ℕ) → b ≡ word_of tree r 0 + word_of tree r 1 * 4294967296 → (v : FloatValue) → float_of v ≡ some (Ieee.of_bits binary64 b)
+  pub float_is : k ≡ 3 → (b : ℕ) → b ≡ word_of tree r 0 + word_of tree r 1 * 4294967296 → (v : Std.Option FloatValue) → float_of v ≡ some (Ieee.of_bits binary64 b)
       → float_of v ≡ float_value (expr_of (node tree text r))
   unfolding float_value expr_of wide_of
   float_is q b eb v ev = rw (float_case tree text r (sym ek ∙ q)) (ev ∙ ap (λ (x : ℕ). some (Ieee.of_bits binary64 x)) eb)
 
-  pub float_other : (k ≡ 3 → ⊥) → (k ≡ 9 → ⊥) → (k ≡ 10 → ⊥) → float_of F.Nothing ≡ float_value (expr_of (node tree text r))
+  pub float_other : (k ≡ 3 → ⊥) → (k ≡ 9 → ⊥) → (k ≡ 10 → ⊥) → float_of None ≡ float_value (expr_of (node tree text r))
   unfolding float_value expr_of float_of NoValue
   float_other n₃ n₉ n₁₀ = go (eqb k 2) refl
     where

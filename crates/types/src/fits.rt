@@ -32,9 +32,9 @@ fn float_constant_fits(tree: &[u8], e: usize, expected: usize) -> bool
     ensures { (text : List ℕ) → result ≡ some_and (float_value (expr_of (node tree.now text e))) (λ v. float_fits v (bit 16 (detail_of tree.now expected))) }
 {
     match float_value(tree, e) {
-        FloatValue::Value(v) => float_fits(v, is_short(tree, expected)),
-        FloatValue::Nan => false,
-        FloatValue::Nothing => false,
+        Some(FloatValue::Value(v)) => float_fits(v, is_short(tree, expected)),
+        Some(FloatValue::Nan) => false,
+        None => false,
     }
 }
 
@@ -107,11 +107,7 @@ fn is_float_constant(tree: &[u8], e: usize) -> bool
     requires { e * record_bytes + record_bytes ≤ length tree.now }
     ensures { (text : List ℕ) → result ≡ is_some (float_value (expr_of (node tree.now text e))) }
 {
-    match float_value(tree, e) {
-        FloatValue::Value(_) => true,
-        FloatValue::Nan => true,
-        FloatValue::Nothing => false,
-    }
+    float_value(tree, e).is_some()
 }
 
 // A constant of the form that is expected.
