@@ -1,4 +1,4 @@
--- `int128::Int128::from_i64` meets its contract: below 0 the number is -(n + 1), and its lower half the complement of n.
+-- `from` of an i64 meets its contract: below 0 the number is -(n + 1), and its lower half the complement of n.
 -- `Small.negative_is` gives that n; each fact is carried from n to what the code computes.
 use Prim.Native.Nat.{ℕ, ◌+◌, ◌-◌, ◌*◌, ◌^◌, ◌≤◌, ◌<◌}
 use native.Mathlib.Omega.{arith}
@@ -11,7 +11,7 @@ use mir.Syntax.{w64, w128}
 use mir.Val.{to_z, of_z, Fits, SFits}
 use mir.ValLaws.{to_z-of_z}
 use Rattle.int128.proofs.Small.{word, Negative, negative_is, Positive, positive_is, ones_value}
-use Rattle.int128.proofs.Int128.from_i64.Goals as goal
+use Rattle.int128.proofs.words.Int128FromI64.from.Goals as goal
 
 cast : (z : ℤ) (n : ℕ) → z ≡ pos n → n < 2 ^ 63 → T (non_neg z) × Fits w64 (nat_abs z)
 cast z n e h = subst (λ (y : ℤ). T (non_neg y) × Fits w64 (nat_abs y)) (sym e) (tt, record { fits = lt_of_lt_of_le h (lit≤ tt) })

@@ -1,4 +1,4 @@
--- `int128::Int128::not` meets its contract: the complement of each half is that of the whole.
+-- `not` of an `Int128` meets its contract: the complement of each half is that of the whole.
 -- `Halves.complement` at 64 bits, and `Complement.not-bits`.
 use Prim.Native.Nat.{◌^◌}
 use mathlib.Core.Path.{◌∙◌, ap, sym}
@@ -9,7 +9,7 @@ use Rattle.int128.specs.Value.{bits_of}
 use Rattle.int128.proofs.Halves.{complement}
 use Rattle.int128.proofs.Whole.{fits}
 use Rattle.int128.proofs.Complement.{not-bits}
-use Rattle.int128.proofs.Int128.not.Goals as goal
+use Rattle.int128.proofs.bits.Int128Not.not.Goals as goal
 
 pub returns : goal.returns
 returns c = let x = c.args.self in
