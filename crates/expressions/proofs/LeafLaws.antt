@@ -1,5 +1,8 @@
 -- Types of literals, of names and of calls' values, as the code meets them.
 -- By the cases of nodes, the twelve first types, the open names one by one, and a function's word D. Assumes nothing.
+use Rattle.std.specs.Prelude.{Ok, Err}
+use Rattle.expressions.specs.declared.answers.Callee as Code
+use Rattle.expressions.specs.Answers.{Answer}
 use mathlib.Core.Path.{◌≡◌, refl, sym, ap, ◌∙◌, subst}
 use mathlib.Core.Logic.{◌⊎◌, inl, inr}
 use mathlib.Core.Bool.{Bool, true, false}
@@ -28,8 +31,6 @@ use Rattle.ir.specs.declared.structs.VarId.{VarId}
 use Rattle.scope.specs.declared.Scope.{Scope}
 use Rattle.scope.specs.declared.Known.{Known}
 use Rattle.scope.specs.Open.{open_variable, variables_at, variables_of, scope_at, IsFound, FindMeets}
-use Rattle.expressions.specs.declared.answers.ExprType.{ExprType}
-use Rattle.expressions.specs.declared.answers.Resolved.{Resolved}
 use Rattle.syntax.specs.Places.{IsExpr, IsKind, TypeAt, FunctionAt, function_of}
 use Rattle.expressions.specs.Slots.{type_in, Scoped}
 use Rattle.expressions.specs.Answers.{refusal, type_result, callee_of, value_result, IsTyped, IsCallee, TypeIs}
@@ -97,7 +98,7 @@ module _ (tree text : List ℕ) (good : Good tree text) (e : ℕ) (x : IsExpr tr
       (first 2 (omega arith), λ S. rw (expr_size_of tree text e eight))
 
 pub literal_leaf : (tree text s : List ℕ) (sc : Scope) (e y : ℕ) → TypeAt tree y × ((S : Def.Scope) → type_in tree text S e ≡ ok y)
-    → TypeIs tree (ExprType.Is y) (type_in tree text (scope_at tree text s sc) e)
+    → TypeIs tree (Ok y) (type_in tree text (scope_at tree text s sc) e)
 unfolding type_result
 literal_leaf tree text s sc e y h = record { is = h.1 (scope_at tree text s sc); type = IsTyped.is h.0 }
 
@@ -133,7 +134,7 @@ module _ (tree text s : List ℕ) (sc : Scope) (e : ℕ) (scoped : Scoped tree s
   type-name = rw (expr-name tree text e k.kind)
 
   pub name-known : (v : VarId) (b : Bool) → r ≡ Known.Is v b
-      → TypeIs tree (ExprType.Is v.1) (type_in tree text (scope_at tree text s sc) e)
+      → TypeIs tree (Ok v.1) (type_in tree text (scope_at tree text s sc) e)
   unfolding type_result
   name-known v b q =
       let hit : IsFound (Known.Is v b) (find_in (text_of tree text e A) (variables_of text s sc)) =
@@ -143,7 +144,7 @@ module _ (tree text s : List ℕ) (sc : Scope) (e : ℕ) (scoped : Scoped tree s
             (λ j h. subst (λ (z : ℕ). TypeAt tree (word_at s (8 * z + 16 * j + 12) / 2)) (sym scoped.records_are) (scoped.types j h)) hit);
       }
 
-  pub name_unknown : r ≡ Known.Unknown → (z : ExprType) → z ≡ ExprType.Refused (record { kind = UnknownVariable; place = e })
+  pub name_unknown : r ≡ Known.Unknown → (z : Answer ℕ) → z ≡ Err (record { kind = UnknownVariable; place = e })
       → TypeIs tree z (type_in tree text (scope_at tree text s sc) e)
   name_unknown q z w =
       refused-at tree (type_in tree text (scope_at tree text s sc) e) UnknownVariable e z
@@ -152,23 +153,23 @@ module _ (tree text s : List ℕ) (sc : Scope) (e : ℕ) (scoped : Scoped tree s
 
 -- ---- what a call gives back
 
-module _ (tree text : List ℕ) (good : Good tree text) (e : ℕ) (c : Resolved) (is : IsCallee tree c) where
-  pub value-refused : (x : ConvertError) → c ≡ Resolved.Refused x → TypeIs tree (ExprType.Refused x) (value_result tree text e c)
+module _ (tree text : List ℕ) (good : Good tree text) (e : ℕ) (c : Answer Code.Callee) (is : IsCallee tree c) where
+  pub value-refused : (x : ConvertError) → c ≡ Err x → TypeIs tree (Err x) (value_result tree text e c)
   unfolding value_result callee_of type_result refusal ◌>>=◌
   value-refused x q = record { is = rw q; type = IsTyped.no }
 
-  pub value-cast : (y : ℕ) → c ≡ Resolved.Cast y → TypeIs tree (ExprType.Is y) (value_result tree text e c)
+  pub value-cast : (y : ℕ) → c ≡ Ok (Code.Callee.Cast y) → TypeIs tree (Ok y) (value_result tree text e c)
   unfolding value_result callee_of type_result ◌>>=◌ value_type return_type
-  value-cast y q = record { is = rw q; type = IsTyped.is (go (subst (λ (z : Resolved). IsCallee tree z) q is)) }
+  value-cast y q = record { is = rw q; type = IsTyped.is (go (subst (λ (z : Answer Code.Callee). IsCallee tree z) q is)) }
     where
-      go : IsCallee tree (Resolved.Cast y) → TypeAt tree y
+      go : IsCallee tree (Ok (Code.Callee.Cast y)) → TypeAt tree y
       go (IsCallee.a_cast t) = t
 
-  module _ (f : ℕ) (q : c ≡ Resolved.Function f) where
+  module _ (f : ℕ) (q : c ≡ Ok (Code.Callee.Function f)) where
     pub callee-function : FunctionAt tree f
-    callee-function = go (subst (λ (z : Resolved). IsCallee tree z) q is)
+    callee-function = go (subst (λ (z : Answer Code.Callee). IsCallee tree z) q is)
       where
-        go : IsCallee tree (Resolved.Function f) → FunctionAt tree f
+        go : IsCallee tree (Ok (Code.Callee.Function f)) → FunctionAt tree f
         go (IsCallee.a_function t) = t
 
     pub function-inside : f * 32 + 32 ≤ length tree
@@ -178,12 +179,12 @@ module _ (tree text : List ℕ) (good : Good tree text) (e : ℕ) (c : Resolved)
     returns-type = function-return tree text good f callee-function
 
     module _ (y : ℕ) (ey : y ≡ word_of tree f D) where
-      pub value_none : y ≡ none → (a : ExprType) → a ≡ ExprType.Refused (record { kind = NoValue; place = e }) → TypeIs tree a (value_result tree text e c)
+      pub value_none : y ≡ none → (a : Answer ℕ) → a ≡ Err (record { kind = NoValue; place = e }) → TypeIs tree a (value_result tree text e c)
       unfolding value_result callee_of ◌>>=◌ value_type return_type reference pick
       value_none n a w =
           refused-at tree (value_result tree text e c) NoValue e a (rw (q, returns-type, eq-eqb (word_of tree f D) none (sym ey ∙ n))) w
 
-      pub value_some : (y ≡ none → ⊥) → TypeIs tree (ExprType.Is y) (value_result tree text e c)
+      pub value_some : (y ≡ none → ⊥) → TypeIs tree (Ok y) (value_result tree text e c)
       unfolding value_result callee_of ◌>>=◌ value_type return_type reference pick type_result
       value_some n = record {
         is = rw (q, returns-type, ne_eqb (word_of tree f D) none (λ z. n (ey ∙ z))) (ap (λ (z : ℕ). ok z) (sym ey));

@@ -1,5 +1,5 @@
 // The arguments of a call: a list of cells. The type of an argument that is an expression stands in scratch, at the expression's slot.
-ghost use Rattle.std.specs.Prelude.{◌≡◌, List, ℕ, ◌+◌, ◌*◌, ◌≤◌, ◌<◌, length};
+ghost use Rattle.std.specs.Prelude.{◌≡◌, ◌⊎◌, List, ℕ, ◌+◌, ◌*◌, ◌≤◌, ◌<◌, length};
 ghost use Rattle.records.specs.Layout.{scratch_each};
 ghost use Rattle.records.specs.Words as Words;
 ghost use Rattle.records.specs.Words.{records, word_of, none};
@@ -90,10 +90,12 @@ pub(crate) fn type_key(tree: &[u8], text: &[u8], y: usize) -> Part
     text_part(tree, y, WORD_D)
 }
 
-pub(crate) fn count_arguments(tree: &[u8], text: &[u8], first: usize) -> usize
+// How many cells a list has, of arguments or of parameters.
+fn count_cells(tree: &[u8], text: &[u8], first: usize) -> usize
     requires good { Good tree.now text.now }
-    requires args_at { ArgsAt tree.now first }
-    ensures { (s : List ℕ) → result ≡ length (typed_at tree.now text.now s first) }
+    requires list { ArgsAt tree.now first ⊎ ParamsAt tree.now first }
+    ensures arguments { ArgsAt tree.now first → (s : List ℕ) → result ≡ length (typed_at tree.now text.now s first) }
+    ensures parameters { ParamsAt tree.now first → result ≡ length (params_at tree.now text.now first) }
 {
     let mut n = 0;
     let mut cell = first;
@@ -104,18 +106,20 @@ pub(crate) fn count_arguments(tree: &[u8], text: &[u8], first: usize) -> usize
     n
 }
 
+pub(crate) fn count_arguments(tree: &[u8], text: &[u8], first: usize) -> usize
+    requires good { Good tree.now text.now }
+    requires args_at { ArgsAt tree.now first }
+    ensures { (s : List ℕ) → result ≡ length (typed_at tree.now text.now s first) }
+{
+    count_cells(tree, text, first)
+}
+
 pub(crate) fn count_parameters(tree: &[u8], text: &[u8], first: usize) -> usize
     requires good { Good tree.now text.now }
     requires params_at { ParamsAt tree.now first }
     ensures { result ≡ length (params_at tree.now text.now first) }
 {
-    let mut n = 0;
-    let mut cell = first;
-    while cell != END {
-        n += 1;
-        cell = next_cell(tree, cell);
-    }
-    n
+    count_cells(tree, text, first)
 }
 
 // The first type among the arguments.

@@ -61,8 +61,7 @@ fn are_suffixes(tree: &[u8], text: &[u8], scratch: &[u8], first: usize, k: usize
 {
     let mut here = at;
     let mut cell = first;
-    let mut i = 0;
-    while i < k {
+    for _ in 0..k {
         let piece = type_key(tree, text, argument_type(tree, text, scratch, cell));
         let start = piece.offset;
         let size = piece.len;
@@ -74,7 +73,6 @@ fn are_suffixes(tree: &[u8], text: &[u8], scratch: &[u8], first: usize, k: usize
         }
         here = here + 1 + size;
         cell = next_cell(tree, cell);
-        i += 1;
     }
     true
 }
