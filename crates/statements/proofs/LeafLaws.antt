@@ -1,5 +1,6 @@
 -- The operands of expressions without operands of their own, as the code meets them: of literals, names and sizes.
 -- By what a record of each kind stands for; a leaf adds a string or a float, or nothing. Assumes nothing.
+use Rattle.std.specs.Prelude.{Ok}
 use mathlib.Core.Path.{◌≡◌, refl, sym, ap, ap₂, ◌∙◌, subst}
 use mathlib.Core.Bool.{Bool, true, false}
 use mathlib.Core.List.{List}
@@ -46,7 +47,6 @@ use Rattle.scope.specs.declared.Known.{Known}
 use Rattle.scope.specs.Open.{scope_at, FindMeets}
 use Rattle.scope.proofs.ScopeLaws.{find_some, find_unknown}
 use Rattle.expressions.specs.Answers.{IsTyped}
-use Rattle.expressions.specs.declared.answers.ExprType.TheVariants as ExprType
 use Rattle.expressions.specs.Slots.{Asked, Ready}
 use Rattle.expressions.proofs.LeafLaws as Typing
 use Rattle.expressions.proofs.OriginalLaws.{kind-has, name-asked, kind-asked, slot-inside}
@@ -177,7 +177,7 @@ module _ (tree text l s : List ℕ) (c : Converter) (e : ℕ) (x : Converting tr
   met : (k : Known) → r ≡ k → FindMeets text s c.scope (text_of tree text e A) k
   met k q = subst (λ (z : Known). FindMeets text s c.scope (text_of tree text e A) z) q m
 
-  typed : {y : ℕ} → IsTyped tree (ExprType.Is y) → TypeAt tree y
+  typed : {y : ℕ} → IsTyped tree (Ok y) → TypeAt tree y
   typed (IsTyped.is t) = t
 
   pub name-gives : (v : VarId) (b : Bool) → r ≡ Known.Is v b

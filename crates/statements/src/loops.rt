@@ -24,7 +24,6 @@ use crate::fits::{check_fits, fit_operand};
 use crate::jumps::{jump, jump_if_not, place_label};
 use crate::numbers::{CONDITION_END, LOOP_CHECK, LOOP_END, LOOP_START, OTHERWISE};
 use crate::statements::{convert_cond, copy_fitted};
-use expressions::answers::{ExprType, Outcome};
 use expressions::expressions::get_type;
 use expressions::names::{declare_name, find_name};
 use ir::lent::new_var;
@@ -212,17 +211,15 @@ fn check_bound(
     c: Converter,
     e: usize,
     y: usize,
-) -> Outcome
+) -> Result<(), ConvertError>
     requires ready { Ready tree.now text.now scratch.old c.scope × IsExpr tree.now e × TypeAt tree.now y }
     requires by_index { (k : List ℕ) → InTurn tree.now text.now scratch.old (at c k) }
     ensures by_index_2 { (k : List ℕ) → Checks tree.now (bound_steps tree.now text.now scratch.old (at c k) e y) scratch.old result scratch.new }
     ensures types { (k : List ℕ) → ChecksTyped bound_types (at c k) e tree.now text.now scratch.old result scratch.new }
 {
     let scope = c.scope;
-    match get_type(tree, text, scratch, scope, c.turn, e) {
-        ExprType::Refused(x) => Outcome::Refused(x),
-        ExprType::Is(q) => check_fits(tree, e, q, y, ConvertErrorKind::NotInteger, e),
-    }
+    let q = get_type(tree, text, scratch, scope, c.turn, e)?;
+    check_fits(tree, e, q, y, ConvertErrorKind::NotInteger, e)
 }
 
 // Both bounds of the For r are looked at before either is converted.
@@ -233,7 +230,7 @@ fn for_bounds(
     c: Converter,
     r: usize,
     y: usize,
-) -> Outcome
+) -> Result<(), ConvertError>
     requires ready { Ready tree.now text.now scratch.old c.scope × IsKind tree.now kind_for r × TypeAt tree.now y }
     requires by_index { (k : List ℕ) → InTurn tree.now text.now scratch.old (at c k) }
     ensures by_index_2 { (k : List ℕ) → Checks tree.now (for_bounds_steps tree.now text.now scratch.old (at c k) r y) scratch.old result scratch.new }
@@ -241,10 +238,8 @@ fn for_bounds(
 {
     let from = reference(tree, r, WORD_B);
     let until = reference(tree, r, WORD_C);
-    match check_bound(tree, text, scratch, c, from, y) {
-        Outcome::Refused(x) => Outcome::Refused(x),
-        Outcome::Done => check_bound(tree, text, scratch, c, until, y),
-    }
+    check_bound(tree, text, scratch, c, from, y)?;
+    check_bound(tree, text, scratch, c, until, y)
 }
 
 // Where the For r counts on: at its start, which the first turn passes by, and then the check.
@@ -339,13 +334,9 @@ fn for_turns(
     if form(tree, y) != FORM_INT {
         return Err(error_at(ConvertErrorKind::NotInteger, r));
     }
-    match for_bounds(tree, text, scratch, c, r, y) {
-        Outcome::Refused(e) => Err(e),
-        Outcome::Done => {
-            for_begin(tree, text, arena, scratch, k, c, r, x)?;
-            for_test(tree, text, arena, scratch, k, c, r, x)
-        }
-    }
+    for_bounds(tree, text, scratch, c, r, y)?;
+    for_begin(tree, text, arena, scratch, k, c, r, x)?;
+    for_test(tree, text, arena, scratch, k, c, r, x)
 }
 
 // The For r before its body, with the scope of the body: a variable that it declares is unknown in its bounds.
