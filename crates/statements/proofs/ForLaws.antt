@@ -1,6 +1,7 @@
 -- The head of a For as the code meets it: its variable, the check of its bounds, its turns; and what its words refer to.
 -- By the laws of steps in a row and what the search for a name finds; the scope stays as long as its names do. Assumes nothing.
-use Rattle.std.specs.Prelude.{Ok, Err}
+use Rattle.std.specs.Prelude as Std
+use Rattle.std.specs.Prelude.{Ok, Err, Some, None}
 use mathlib.Core.Path.{◌≡◌, refl, sym, ap, ◌∙◌, subst, fun_ext}
 use mathlib.Core.Logic.{◌⊎◌, inl, inr}
 use mathlib.Core.Bool.{Bool, true, false}
@@ -41,7 +42,6 @@ use Rattle.laws.proofs.FixLaws.{pick_yes, pick_no}
 use Rattle.ir.proofs.StepCases.{on_int_lem, no_int, stop-of}
 use Rattle.ir.proofs.StepLaws.{lift-stops, stop-first, stop_seq}
 use Rattle.scope.specs.declared.Scope.{Scope}
-use Rattle.scope.specs.declared.Declared.{Declared}
 use Rattle.scope.specs.declared.Known.{Known}
 use Rattle.scope.specs.Open.{scope_at, NameAfforded, DeclareMeets, FindMeets}
 use Rattle.scope.proofs.ScopeLaws.{Finds, find_some, find_unknown}
@@ -229,7 +229,7 @@ variable-asked h i e = kind-asked 24 refl h (variable-is h.keyed.good i e)
 -- ---- a variable of the blocks around
 
 module _ {tree text l s : List ℕ} {c : Converter} (r : ℕ) {v : ℕ} (p : Converting tree text l s c) (ev : v ≡ word_of tree r A) (free : word_of tree v C ≡ none)
-    (a : Known) (m : FindMeets text s c.scope (text_of tree text v A) a) where
+    (a : Std.Option Known) (m : FindMeets text s c.scope (text_of tree text v A) a) where
   known-steps : for_variable_steps tree text s c r
       ≡ known_variable (program tree text) (all_keys tree text) r (find_variable (text_of tree text v A) (scope_in tree text s c)) (scope_in tree text s c)
   unfolding for_variable reference
@@ -237,38 +237,38 @@ module _ {tree text l s : List ℕ} {c : Converter} (r : ℕ) {v : ℕ} (p : Con
       ap (λ (z : ℕ). for_variable (program tree text) (all_keys tree text) r (text_of tree text z A) (reference (word_of tree z C)) (scope_in tree text s c)) (sym ev)
       ∙ rw (pick_yes (eqb (word_of tree v C) none) nothing (some (word_of tree v C)) (eq-eqb (word_of tree v C) none free))
 
-  met : (k : Known) → a ≡ k → FindMeets text s c.scope (text_of tree text v A) k
-  met k q = subst (λ (z : Known). FindMeets text s c.scope (text_of tree text v A) z) q m
+  met : (k : Std.Option Known) → a ≡ k → FindMeets text s c.scope (text_of tree text v A) k
+  met k q = subst (λ (z : Std.Option Known). FindMeets text s c.scope (text_of tree text v A) z) q m
 
   refuses : {d : ConvertErrorKind} {x : ConvertError} → for_variable_steps tree text s c r ≡ fail d r → x ≡ record { kind = d; place = r }
       → FindsVariable tree text (for_variable_steps tree text s c r) c l s (ForVariable.Refused x) l s
   refuses e w = variable-refused refl (stop-of e (fails_as (texts_of tree text) w)) (stays_refl tree c.scope.names c.operands s)
 
-  pub known-not : {x : ConvertError} → a ≡ Known.Unknown → x ≡ record { kind = UnknownVariable; place = r }
+  pub known-not : {x : ConvertError} → a ≡ None → x ≡ record { kind = UnknownVariable; place = r }
       → FindsVariable tree text (for_variable_steps tree text s c r) c l s (ForVariable.Refused x) l s
   unfolding known_variable
-  known-not q w = refuses (known-steps ∙ rw (find_unknown tree text s c.scope (text_of tree text v A) (met Known.Unknown q))) w
+  known-not q w = refuses (known-steps ∙ rw (find_unknown tree text s c.scope (text_of tree text v A) (met None q))) w
 
-  module _ {x : VarId} {b : Bool} (q : a ≡ Known.Is x b) where
-    found : Finds (text_of tree text v A) (scope_in tree text s c) x b
-    found = find_some tree text s c.scope (text_of tree text v A) x b (met (Known.Is x b) q)
+  module _ {y : Known} (q : a ≡ Some y) where
+    found : Finds (text_of tree text v A) (scope_in tree text s c) y.var y.constant
+    found = find_some tree text s c.scope (text_of tree text v A) y (met (Some y) q)
 
-    found-steps : for_variable_steps tree text s c r ≡ pick b (fail AssignToConstant r) (pure (var_of x, scope_in tree text s c))
+    found-steps : for_variable_steps tree text s c r ≡ pick y.constant (fail AssignToConstant r) (pure (var_of y.var, scope_in tree text s c))
     unfolding known_variable
     found-steps =
         known-steps ∙ rw found.found
         (ap (λ (z : Bool). pick z (fail AssignToConstant r) (pure (found.holder.var_id, scope_in tree text s c))) found.fixed
-        ∙ ap (λ (z : Ir.VarId). pick b (fail AssignToConstant r) (pure (z, scope_in tree text s c))) found.var)
+        ∙ ap (λ (z : Ir.VarId). pick y.constant (fail AssignToConstant r) (pure (z, scope_in tree text s c))) found.var)
 
-    pub known_fixed : {z : ConvertError} → b ≡ true → z ≡ record { kind = AssignToConstant; place = r }
+    pub known_fixed : {z : ConvertError} → y.constant ≡ true → z ≡ record { kind = AssignToConstant; place = r }
         → FindsVariable tree text (for_variable_steps tree text s c r) c l s (ForVariable.Refused z) l s
-    known_fixed h w = refuses (found-steps ∙ pick_yes b (fail AssignToConstant r) (pure (var_of x, scope_in tree text s c)) h) w
+    known_fixed h w = refuses (found-steps ∙ pick_yes y.constant (fail AssignToConstant r) (pure (var_of y.var, scope_in tree text s c)) h) w
 
-    pub known_is : b ≡ false → FindsVariable tree text (for_variable_steps tree text s c r) c l s (ForVariable.Is x c.scope c.counters) l s
+    pub known_is : y.constant ≡ false → FindsVariable tree text (for_variable_steps tree text s c r) c l s (ForVariable.Is y.var c.scope c.counters) l s
     known_is h = variable-gave refl
-        (adds_in (texts_of tree text) (adds_same (sym (found-steps ∙ pick_no b (fail AssignToConstant r) (pure (var_of x, scope_in tree text s c)) h))
-        (adds-most (adds-pure (var_of x, scope_in tree text s c) c.counters l p.room) (omega arith))))
-        (found-typed p (text_of tree text v A) x b (met (Known.Is x b) q))
+        (adds_in (texts_of tree text) (adds_same (sym (found-steps ∙ pick_no y.constant (fail AssignToConstant r) (pure (var_of y.var, scope_in tree text s c)) h))
+        (adds-most (adds-pure (var_of y.var, scope_in tree text s c) c.counters l p.room) (omega arith))))
+        (found-typed p (text_of tree text v A) y (met (Some y) q))
         (leaves-same p (stays_refl tree c.scope.names c.operands s)) (stays_refl tree c.scope.names c.operands s)
 
 -- ---- the variable that it declares
@@ -298,8 +298,8 @@ module _ {tree text l s : List ℕ} {c : Converter} {r v : ℕ} (p : Converting 
         ∙ rw (pick_no (eqb (word_of tree v C) none) nothing (some (word_of tree v C)) (ne_eqb (word_of tree v C) none (λ e. omega (arith, t.below, p.ready.keyed.good.few))))
         (ap (λ (z : ℕ). declared_then tree text v false r z (scope_in tree text s c) declared) (sym ey)))
 
-    module _ (s' : List ℕ) {d : Declared} (m : DeclareMeets text (original_of tree s v) (original_word tree s v A) (original_word tree s v B) made.var false c.scope s s' d) where
-      pub for_taken : {e : ConvertError} → d ≡ Declared.Taken → e ≡ record { kind = AlreadyDeclared; place = r }
+    module _ (s' : List ℕ) {d : Std.Option Scope} (m : DeclareMeets text (original_of tree s v) (original_word tree s v A) (original_word tree s v B) made.var false c.scope s s' d) where
+      pub for_taken : {e : ConvertError} → d ≡ None → e ≡ record { kind = AlreadyDeclared; place = r }
           → FindsVariable tree text (for_variable_steps tree text s c r) c l s (ForVariable.Refused e) l₁ s'
       for_taken q w = record {
         meets = meets-same (texts_of tree text) declared_steps (variable-not p long new few typed v asked false s' m r declared q w);
@@ -307,7 +307,7 @@ module _ {tree text l s : List ℕ} {c : Converter} {r v : ℕ} (p : Converting 
         stays = taken-stays p made.var few (var_typed p long new few typed) v asked false s' m q;
       }
 
-      pub for_done : {sc : Scope} → d ≡ Declared.Done sc
+      pub for_done : {sc : Scope} → d ≡ Some sc
           → FindsVariable tree text (for_variable_steps tree text s c r) c l s (ForVariable.Is made.var sc made.counters) l₁ s'
       for_done {sc} q = variable-gave long
           ((meets-same (texts_of tree text) declared_steps (variable_then p long new few typed v asked false s' m r declared q
@@ -316,7 +316,7 @@ module _ {tree text l s : List ℕ} {c : Converter} {r v : ℕ} (p : Converting 
           (var_typed p long new few typed) (declared_leaves p made.var few (var_typed p long new few typed) v asked false s' m q)
           (declared_stays p made.var few (var_typed p long new few typed) v asked false s' m q)
 
-      pub declared_none : {sc : Scope} → d ≡ Declared.Done sc → InTurn tree text s c → VariableTyped c tree text s (ForVariable.Is made.var sc made.counters) s'
+      pub declared_none : {sc : Scope} → d ≡ Some sc → InTurn tree text s c → VariableTyped c tree text s (ForVariable.Is made.var sc made.counters) s'
       declared_none q u x sc k e = declared_types p made.var few (var_typed p long new few typed) v asked false s' m q u
 
 -- ---- the turns: x is the variable

@@ -1,6 +1,7 @@
 -- The Init, as the code meets it: a value assigned to a known variable, a new variable with its name and the copy, and which of both it is.
 -- By the laws of steps in a row: the scope stays while the value is typed and converted; amounts are arithmetic over the value's records. Assumes nothing.
-use Rattle.std.specs.Prelude.{Ok, Err}
+use Rattle.std.specs.Prelude as Std
+use Rattle.std.specs.Prelude.{Ok, Err, Some, None}
 use mathlib.Core.Path.{◌≡◌, refl, sym, ap, ap₂, ◌∙◌, subst}
 use mathlib.Core.Bool.{Bool, true, false, ◌||◌}
 use mathlib.Core.List.{List, [], ◌++◌}
@@ -46,7 +47,6 @@ use Rattle.texts.specs.Texts.{has_text}
 use Rattle.expressions.specs.Slots.{original_of, original_word, Asked, Ready}
 use Rattle.expressions.proofs.OriginalLaws.{kind-asked}
 use Rattle.scope.specs.declared.Known.{Known}
-use Rattle.scope.specs.declared.Declared.{Declared}
 use Rattle.scope.specs.Open.{NameAfforded, scope_at, FindMeets, DeclareMeets}
 use Rattle.scope.proofs.ScopeLaws.{find_some, find_unknown}
 use Rattle.keys.specs.Keys.{all_keys}
@@ -247,18 +247,18 @@ module _ {tree text l s : List ℕ} {c : Converter} {r y : ℕ} (p : Converting 
     pub new_requires : Asked tree text s c.scope r × NameAfforded c.scope made.var
     new_requires = (init_asked p.ready x, var_afforded p long new more-names new_type_lem)
 
-    module _ (src : Operand) {d : ℕ} (ed : d ≡ detail_of tree r) {s' : List ℕ} {g : Declared}
+    module _ (src : Operand) {d : ℕ} (ed : d ≡ detail_of tree r) {s' : List ℕ} {g : Std.Option Scope}
         (m : DeclareMeets text (original_of tree s r) (original_word tree s r A) (original_word tree s r B) made.var (eqb d 1) c.scope s s' g) where
-      pub new-taken : {e : ConvertError} → g ≡ Declared.Taken → e ≡ record { kind = AlreadyDeclared; place = r }
+      pub new-taken : {e : ConvertError} → g ≡ None → e ≡ record { kind = AlreadyDeclared; place = r }
           → DeclaresAs (λ t u i k j. declare_init_steps t u i k j y src) c r tree text l s (Stated.Refused e) l₁ s'
       new-taken q w =
           states_stop (meets-same (texts_of tree text) (declare_steps_lem src ed) (variable-not p long new more-names new_type_lem r (init_asked p.ready x) (eqb d 1) s' m r (copied src) q w))
           (taken-stays p made.var more-names (var_typed p long new more-names new_type_lem) r (init_asked p.ready x) (eqb d 1) s' m q)
 
-      pub new-types : {sc : Scope} → g ≡ Declared.Done sc → InTurn tree text s c → TypedIn tree text c s [] s'
+      pub new-types : {sc : Scope} → g ≡ Some sc → InTurn tree text s c → TypedIn tree text c s [] s'
       new-types q i = declared_types p made.var more-names (var_typed p long new more-names new_type_lem) r (init_asked p.ready x) (eqb d 1) s' m q i
 
-      pub new_declared : {sc : Scope} {k₂ : Counters} {l₂ : List ℕ} → g ≡ Declared.Done sc → length l₂ ≡ length l₁ → Emits (Copy (var_of made.var) (operand_of src)) made.counters l₁ k₂ l₂
+      pub new_declared : {sc : Scope} {k₂ : Counters} {l₂ : List ℕ} → g ≡ Some sc → length l₂ ≡ length l₁ → Emits (Copy (var_of made.var) (operand_of src)) made.counters l₁ k₂ l₂
           → DeclaresAs (λ t u i k j. declare_init_steps t u i k j y src) c r tree text l s (Stated.Done sc k₂) l₂ s'
       new_declared {sc} {k₂} {l₂} q h i =
           let at : TypeAt tree made.var.1 = var_typed p long new more-names new_type_lem in
@@ -370,27 +370,27 @@ module _ {tree text l s : List ℕ} {c : Converter} {r : ℕ} (p : Converting tr
   init_constant h i =
       states_same (by-constant (program tree text) (all_keys tree text) r (text_of tree text r A) value S (bit 1 (detail_of tree r)) (find_variable (text_of tree text r A) S) (sym mark ∙ eq-eqb d 1 h)) i
 
-  module _ {known : Known} (g : FindMeets text s c.scope (text_of tree text r A) known) where
-    was : {k : Known} → known ≡ k → FindMeets text s c.scope (text_of tree text r A) k
-    was {k} q = subst (λ (z : Known). FindMeets text s c.scope (text_of tree text r A) z) q g
+  module _ {known : Std.Option Known} (g : FindMeets text s c.scope (text_of tree text r A) known) where
+    was : {k : Std.Option Known} → known ≡ k → FindMeets text s c.scope (text_of tree text r A) k
+    was {k} q = subst (λ (z : Std.Option Known). FindMeets text s c.scope (text_of tree text r A) z) q g
 
-    pub init_unknown : {a : Stated} {l' s' : List ℕ} → known ≡ Known.Unknown → StatesAs init_new_steps c r tree text l s a l' s' → StatesAs init_steps c r tree text l s a l' s'
+    pub init_unknown : {a : Stated} {l' s' : List ℕ} → known ≡ None → StatesAs init_new_steps c r tree text l s a l' s' → StatesAs init_steps c r tree text l s a l' s'
     unfolding convert_init
     init_unknown q i =
         states_same (by_unknown (program tree text) (all_keys tree text) r (text_of tree text r A) value S (bit 1 (detail_of tree r)) (find_variable (text_of tree text r A) S)
         (find_unknown tree text s c.scope (text_of tree text r A) (was q))) i
 
-    module _ {v : VarId} {constant : Bool} (q : known ≡ Known.Is v constant) where
-      pub known-typed : TypeAt tree v.1
-      known-typed = found-typed p (text_of tree text r A) v constant (was q)
+    module _ {y : Known} (q : known ≡ Some y) where
+      pub known-typed : TypeAt tree y.var.1
+      known-typed = found-typed p (text_of tree text r A) y (was q)
 
-      pub init_known : {a : Stated} {l' s' : List ℕ} → (d ≡ 1 → ⊥) → StatesAs (λ t u i k j. assign_steps t u i k j v constant) c r tree text l s a l' s'
+      pub init_known : {a : Stated} {l' s' : List ℕ} → (d ≡ 1 → ⊥) → StatesAs (λ t u i k j. assign_steps t u i k j y.var y.constant) c r tree text l s a l' s'
           → StatesAs init_steps c r tree text l s a l' s'
       unfolding convert_init
       init_known h i =
-          let k = find_some tree text s c.scope (text_of tree text r A) v constant (was q) in
+          let k = find_some tree text s c.scope (text_of tree text r A) y (was q) in
           states_same (
-          assign-by (program tree text) (all_keys tree text) r (text_of tree text r A) value S (text_of tree text r A) k.holder constant (var_of v) k.fixed k.var
+          assign-by (program tree text) (all_keys tree text) r (text_of tree text r A) value S (text_of tree text r A) k.holder y.constant (var_of y.var) k.fixed k.var
           ∙ by-known (program tree text) (all_keys tree text) r (text_of tree text r A) value S (bit 1 (detail_of tree r)) (find_variable (text_of tree text r A) S) k.holder
           (sym mark ∙ ne_eqb d 1 h) k.found
           ) i

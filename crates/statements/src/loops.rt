@@ -31,7 +31,7 @@ use ir::structs::{Operand, VarId, emit_binary};
 use records::convert_error::{ConvertError, ConvertErrorKind};
 use records::numbers::{ADD, BOOL_TYPE, FORM_INT, LT};
 use records::words::{NONE, WORD_A, WORD_B, WORD_C, detail, reference, word};
-use scope::{Declared, Known, Scope};
+use scope::Scope;
 use types::form::{form, is_short, is_unsigned};
 
 // Whether the If r has an otherwise.
@@ -146,13 +146,13 @@ fn for_declared(
 {
     let scope = c.scope;
     let x = new_var(arena, k, word(tree, v, WORD_C));
-    match declare_name(tree, text, scratch, scope, v, x, false) {
-        Declared::Taken => Err(error_at(ConvertErrorKind::AlreadyDeclared, r)),
-        Declared::Done(next) => Ok(ForVariable {
-            var: x,
-            scope: next,
-        }),
-    }
+    let Some(next) = declare_name(tree, text, scratch, scope, v, x, false) else {
+        return Err(error_at(ConvertErrorKind::AlreadyDeclared, r));
+    };
+    Ok(ForVariable {
+        var: x,
+        scope: next,
+    })
 }
 
 // The For r that changes a variable of the blocks around it, named in record v.
@@ -169,15 +169,16 @@ fn for_known(
     ensures { VariableStays for_variable_steps c r tree.now text.now scratch.now result }
 {
     let scope = c.scope;
-    match find_name(tree, text, scratch, scope, v) {
-        Known::Unknown => Err(error_at(ConvertErrorKind::UnknownVariable, r)),
-        Known::Is(x, constant) => {
-            if constant {
-                return Err(error_at(ConvertErrorKind::AssignToConstant, r));
-            }
-            Ok(ForVariable { var: x, scope })
-        }
+    let Some(known) = find_name(tree, text, scratch, scope, v) else {
+        return Err(error_at(ConvertErrorKind::UnknownVariable, r));
+    };
+    if known.constant {
+        return Err(error_at(ConvertErrorKind::AssignToConstant, r));
     }
+    Ok(ForVariable {
+        var: known.var,
+        scope,
+    })
 }
 
 // The variable of the For r.

@@ -35,7 +35,7 @@ use records::numbers::{
     KIND_CALL, NULL_TYPE,
 };
 use records::words::{NONE, WORD_A, WORD_C, WORD_D, detail, kind, reference, word};
-use scope::{Declared, InLoop, Known, Scope};
+use scope::Scope;
 use types::form::{form, is_short, is_unsigned};
 
 // The operand of the condition e, which must be a Bool.
@@ -132,13 +132,11 @@ pub(crate) fn convert_declare(
 {
     let scope = c.scope;
     let v = new_var(arena, k, word(tree, r, WORD_C));
-    match declare_name(tree, text, scratch, scope, r, v, false) {
-        Declared::Taken => Err(error_at(ConvertErrorKind::AlreadyDeclared, r)),
-        Declared::Done(next) => {
-            zero_value(tree, arena, k, r, v)?;
-            Ok(next)
-        }
-    }
+    let Some(next) = declare_name(tree, text, scratch, scope, r, v, false) else {
+        return Err(error_at(ConvertErrorKind::AlreadyDeclared, r));
+    };
+    zero_value(tree, arena, k, r, v)?;
+    Ok(next)
 }
 
 // The operand, fitted to the variable's type, is copied into it.
@@ -231,13 +229,11 @@ fn declare_init(
     let scope = c.scope;
     let constant = detail(tree, r) == 1;
     let v = new_var(arena, k, init_type(y) as u32);
-    match declare_name(tree, text, scratch, scope, r, v, constant) {
-        Declared::Taken => Err(error_at(ConvertErrorKind::AlreadyDeclared, r)),
-        Declared::Done(next) => {
-            emit_copy(arena, k, v, src);
-            Ok(next)
-        }
-    }
+    let Some(next) = declare_name(tree, text, scratch, scope, r, v, constant) else {
+        return Err(error_at(ConvertErrorKind::AlreadyDeclared, r));
+    };
+    emit_copy(arena, k, v, src);
+    Ok(next)
 }
 
 // The Init r of a new name.
@@ -284,10 +280,18 @@ pub(crate) fn convert_init(
         return init_new(tree, text, arena, scratch, k, c, r);
     }
     match find_name(tree, text, scratch, scope, r) {
-        Known::Is(v, constant) => {
-            convert_assign(tree, text, arena, scratch, k, c, r, v, constant)
-        }
-        Known::Unknown => init_new(tree, text, arena, scratch, k, c, r),
+        Some(known) => convert_assign(
+            tree,
+            text,
+            arena,
+            scratch,
+            k,
+            c,
+            r,
+            known.var,
+            known.constant,
+        ),
+        None => init_new(tree, text, arena, scratch, k, c, r),
     }
 }
 
@@ -432,13 +436,11 @@ pub(crate) fn convert_break(
     ensures { StatesAs break_steps (at c k.old) r tree.now text.now arena.old scratch.now (stated k.new result) arena.new scratch.now }
 {
     let scope = c.scope;
-    match scope.in_loop() {
-        InLoop::Outside => Err(error_at(ConvertErrorKind::BreakOutOfLoop, r)),
-        InLoop::Of(l) => {
-            jump(arena, k, LOOP_END, l as usize);
-            Ok(scope)
-        }
-    }
+    let Some(l) = scope.in_loop() else {
+        return Err(error_at(ConvertErrorKind::BreakOutOfLoop, r));
+    };
+    jump(arena, k, LOOP_END, l as usize);
+    Ok(scope)
 }
 
 // The Continue r goes to the start of the innermost loop, which for a For is where it counts on.
@@ -456,11 +458,9 @@ pub(crate) fn convert_continue(
     ensures { StatesAs continue_steps (at c k.old) r tree.now text.now arena.old scratch.now (stated k.new result) arena.new scratch.now }
 {
     let scope = c.scope;
-    match scope.in_loop() {
-        InLoop::Outside => Err(error_at(ConvertErrorKind::ContinueOutOfLoop, r)),
-        InLoop::Of(l) => {
-            jump(arena, k, LOOP_START, l as usize);
-            Ok(scope)
-        }
-    }
+    let Some(l) = scope.in_loop() else {
+        return Err(error_at(ConvertErrorKind::ContinueOutOfLoop, r));
+    };
+    jump(arena, k, LOOP_START, l as usize);
+    Ok(scope)
 }
