@@ -1,7 +1,6 @@
 -- What a call runs, as the code meets it: the functions that literals fit, the cast, and which of them is taken.
 -- By the cases of the definitions, and by the listed functions one after the other. Assumes nothing.
-use Rattle.std.specs.Prelude.{Some, None, Ok, Err}
-use Rattle.std.specs.Prelude as Std
+use Rattle.std.specs.Prelude.{Option as StdOption, Some, None, Ok, Err}
 use Rattle.expressions.specs.declared.answers.Callee as Code
 use Rattle.expressions.specs.Answers.{Answer}
 use mathlib.Core.Path.{◌≡◌, refl, sym, ap, ap₂, ◌∙◌}
@@ -29,7 +28,6 @@ use Rattle.conversion.specs.ConvertError.{Result, err, ◌>>=◌, UnknownFunctio
 use Rattle.conversion.specs.Ir.{same_text}
 use Rattle.conversion.specs.Types.{can_cast}
 use Rattle.conversion.specs.Expressions.{TypedArg, Callee, Functions, cast_verb, is_mangled, takes_both, target_type, source_type, cast_checked, cast_to, cast_type, by_literals, find_functions_by_literals, find_exact_function, chosen, exact_or, resolve_function, resolve_typed}
-use Rattle.records.specs.declared.words.Found.{Found}
 use Rattle.expressions.specs.declared.answers.Candidates.{Candidates}
 use Rattle.expressions.specs.declared.arguments.Call.{Call}
 use Rattle.syntax.specs.Places.{IsKind, TypeAt, FunctionAt, ArgsAt, function_of, args_at}
@@ -263,25 +261,25 @@ module _ (tree text : List ℕ) (verb : Text) (l : List TypedArg) (r : ℕ) (b :
   unfolding cast_type pick cast_result
   cast-not q = rw (sym h, not-true b q)
 
-  module _ (q : not b ≡ false) (t : Found) (ht : found_number t ≡ target_type l) where
+  module _ (q : not b ≡ false) (t : StdOption ℕ) (ht : found_number t ≡ target_type l) where
     cast_to_lem : cast_type (program tree text) (all_keys tree text) verb l r ≡ cast_to (program tree text) (all_keys tree text) r l (found_number t)
     unfolding cast_type pick
     cast_to_lem = rw (sym h, not-false b q, sym ht)
 
-    pub cast_nowhere : t ≡ Found.Nothing → cast_type (program tree text) (all_keys tree text) verb l r ≡ cast_result (Ok None)
+    pub cast_nowhere : t ≡ None → cast_type (program tree text) (all_keys tree text) verb l r ≡ cast_result (Ok None)
     unfolding cast_to cast_result found_number
     cast_nowhere e = cast_to_lem ∙ rw e
 
-    module _ (to : ℕ) (e : t ≡ Found.At to) (u : Found) (hu : found_number u ≡ source_type l) where
+    module _ (to : ℕ) (e : t ≡ Some to) (u : StdOption ℕ) (hu : found_number u ≡ source_type l) where
       cast_checked_lem : cast_type (program tree text) (all_keys tree text) verb l r ≡ cast_checked (program tree text) (all_keys tree text) r to (found_number u)
       unfolding cast_to found_number
       cast_checked_lem = cast_to_lem ∙ rw (e, sym hu)
 
-      pub cast-free : u ≡ Found.Nothing → cast_type (program tree text) (all_keys tree text) verb l r ≡ cast_result (Ok (Some to))
+      pub cast-free : u ≡ None → cast_type (program tree text) (all_keys tree text) verb l r ≡ cast_result (Ok (Some to))
       unfolding cast_checked cast_result found_number
       cast-free p = cast_checked_lem ∙ rw p
 
-      module _ (from : ℕ) (p : u ≡ Found.At from) (c : Bool) (hc : c ≡ can_cast (type_at tree text) from to) where
+      module _ (from : ℕ) (p : u ≡ Some from) (c : Bool) (hc : c ≡ can_cast (type_at tree text) from to) where
         pub cast_fine : c ≡ true → cast_type (program tree text) (all_keys tree text) verb l r ≡ cast_result (Ok (Some to))
         unfolding cast_checked cast_result found_number pick program
         cast_fine w = cast_checked_lem ∙ rw (p, sym hc, w)
@@ -314,16 +312,16 @@ chosen-several tree text (f ∷ []) r e = absurd e
 chosen-several tree text (f ∷ g ∷ l) r e = refl
 
 -- the exact one comes first
-module _ (tree text : List ℕ) (verb : Text) (l : List TypedArg) (r : ℕ) (t : Found)
+module _ (tree text : List ℕ) (verb : Text) (l : List TypedArg) (r : ℕ) (t : StdOption ℕ)
     (h : function_found tree text t ≡ find_exact_function (program tree text) (all_keys tree text) verb l) where
   abbrev resolved : Result Callee
   resolved = resolve_function (program tree text) (all_keys tree text) verb l r nothing
 
-  pub exact_one : FunctionFound tree t → (f : ℕ) → t ≡ Found.At f → CalleeIs tree text (Ok (Code.Callee.Function f)) resolved
+  pub exact_one : FunctionFound tree t → (f : ℕ) → t ≡ Some f → CalleeIs tree text (Ok (Code.Callee.Function f)) resolved
   unfolding resolve_function exact_or callee_of function_found
   exact_one at f e = record { is = rw (sym h, e); callee = IsCallee.a_function (found-function tree t f at e) }
 
-  module _ (e : t ≡ Found.Nothing) (c : Candidates) (all : AreAll tree text c (find_functions_by_literals (program tree text) (all_keys tree text) verb l)) where
+  module _ (e : t ≡ None) (c : Candidates) (all : AreAll tree text c (find_functions_by_literals (program tree text) (all_keys tree text) verb l)) where
     by_choice : resolved ≡ chosen (find_functions_by_literals (program tree text) (all_keys tree text) verb l) r
     unfolding resolve_function exact_or function_found
     by_choice = rw (sym h, e)
@@ -344,7 +342,7 @@ module _ (tree text : List ℕ) (verb : Text) (l : List TypedArg) (r : ℕ) (t :
     unfolding callee_of refusal
     choice_several q a w = rw w (record { is = by_choice ∙ chosen-several tree text _ r (rw q at all); callee = IsCallee.no })
 
-cast_type-is : (tree : List ℕ) (a : Answer (Std.Option ℕ)) (y : ℕ) → IsCast tree a → a ≡ Ok (Some y) → TypeAt tree y
+cast_type-is : (tree : List ℕ) (a : Answer (StdOption ℕ)) (y : ℕ) → IsCast tree a → a ≡ Ok (Some y) → TypeAt tree y
 cast_type-is tree a y (IsCast.to {y = v} t) e = let z : y ≡ v = cc in rw z t
 cast_type-is tree a y IsCast.not_cast e = absurd (let z : ◌≡◌ {A = ℕ} 0 1 = cc in omega arith)
 cast_type-is tree a y IsCast.no e = absurd (let z : ◌≡◌ {A = ℕ} 0 1 = cc in omega arith)
@@ -402,7 +400,7 @@ module _ (tree text s : List ℕ) (r : ℕ) (c : Call) (o : CallAt tree text r c
   abbrev whole : Result Callee
   whole = resolve_typed (program tree text) (all_keys tree text) (text_of tree text r 0) r (typed_at tree text s (word_of tree r 2))
 
-  module _ (a : Answer (Std.Option ℕ)) (h : CastIs tree a (cast_type (program tree text) (all_keys tree text) (verb_of tree text s c) (typed_at tree text s c.first) r)) where
+  module _ (a : Answer (StdOption ℕ)) (h : CastIs tree a (cast_type (program tree text) (all_keys tree text) (verb_of tree text s c) (typed_at tree text s c.first) r)) where
     pub typed-refused : (e : ConvertError) → a ≡ Err e → CalleeIs tree text (Err e) whole
     unfolding resolve_typed ◌>>=◌ cast_result refusal callee_of
     typed-refused e q = record { is = same-call ∙ rw (h.is, q); callee = IsCallee.no }

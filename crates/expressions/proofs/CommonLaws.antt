@@ -1,6 +1,7 @@
 -- The common type of two expressions, as the code meets it: a refusal of either is passed on, and the rule takes their two types.
 -- By the two steps of typing, in the scope that the open names stand for. Assumes nothing.
-use Rattle.std.specs.Prelude.{Some, None, Ok, Err}
+use Rattle.expressions.specs.Answers.{TypeFound}
+use Rattle.std.specs.Prelude.{Option as StdOption, Some, None, Ok, Err}
 use Rattle.expressions.specs.Answers.{Answer}
 use mathlib.Core.Path.{◌≡◌, refl, sym, ap, ◌∙◌, subst}
 use mathlib.Core.List.{List, ◌++◌}
@@ -12,7 +13,6 @@ use Rattle.syntax.specs.Exprs.{exprs}
 use Rattle.conversion.specs.ConvertError.{ok, ◌>>=◌}
 use Rattle.conversion.specs.Scope as Def
 use Rattle.conversion.specs.Expressions.{common_of, common_type}
-use Rattle.records.specs.declared.words.Found.{Found}
 use Rattle.scope.specs.declared.Scope.{Scope}
 use Rattle.scope.specs.Open.{scope_at}
 use Rattle.syntax.specs.Places.{expr_at}
@@ -24,7 +24,16 @@ use Rattle.expressions.specs.Answers.{refusal, type_result, found_number, FoundI
 use Rattle.expressions.proofs.SlotLaws.{frame_trans}
 use Rattle.expressions.proofs.TurnLaws.{typed-both, later_type, later_adds}
 use Rattle.expressions.proofs.TypingLaws.{err-ok, bind_ok, bind-refused, type-ok, type-refused}
-use Rattle.expressions.proofs.OperandLaws.{found_type_lem}
+
+-- what both sides take, as it is answered
+common_found : (f : StdOption ℕ) → Answers.common_result (Ok f) ≡ ok (found_number f)
+unfolding Answers.common_result found_number
+common_found (Some y) = refl
+common_found None = refl
+
+found_common : (tree : List ℕ) (f : StdOption ℕ) → TypeFound tree f → IsCommon tree (Ok f)
+found_common tree (Some y) (TypeFound.a_type h) = IsCommon.is h
+found_common tree None TypeFound.no_type = IsCommon.neither
 
 module _ (tree text s : List ℕ) (sc : Scope) (turn a b : ℕ) (t : Answer ℕ) (s₁ : List ℕ) (m : TypeMeets tree text s sc turn a t s₁) where
   abbrev S : Def.Scope
@@ -73,7 +82,7 @@ module _ (tree text s : List ℕ) (sc : Scope) (turn a b : ℕ) (t : Answer ℕ)
     }
 
     module _ (r : ℕ) (w : u ≡ Ok r) (sides : Sides) (es : sides ≡ record { left = a; left_type = l; right = b; right_type = r })
-        (f : Found) (ef : FoundIs tree f (common_at tree text sides)) where
+        (f : StdOption ℕ) (ef : FoundIs tree f (common_at tree text sides)) where
       found-is : found_number f ≡ rule l r
       found-is = (subst (λ (z : Sides). FoundIs tree f (common_at tree text z)) es ef).is
 
@@ -82,20 +91,10 @@ module _ (tree text s : List ℕ) (sc : Scope) (turn a b : ℕ) (t : Answer ℕ)
           (type-ok (type_in tree text S b) u r right w)
           ∙ ap (λ (z : Option ℕ). ok z) (sym found-is)
 
-      pub takes_one : (y : ℕ) → f ≡ Found.At y → CommonMeets tree text s sc turn a b (Ok (Some y)) s₂
-      unfolding Answers.common_result found_number
-      takes_one y z = record {
+      pub takes : CommonMeets tree text s sc turn a b (Ok f) s₂
+      takes = record {
         frame = frame_trans m.frame m₂.frame;
-        common = IsCommon.is (found_type_lem tree f y ef.type z);
+        common = found_common tree f ef.type;
         adds = λ o v. both-adds r w;
-        meets = with_both ∙ ap (λ (v : Found). ok (found_number v)) z;
-      }
-
-      pub takes_none : f ≡ Found.Nothing → CommonMeets tree text s sc turn a b (Ok None) s₂
-      unfolding Answers.common_result found_number
-      takes_none z = record {
-        frame = frame_trans m.frame m₂.frame;
-        common = IsCommon.neither;
-        adds = λ o v. both-adds r w;
-        meets = with_both ∙ ap (λ (v : Found). ok (found_number v)) z;
+        meets = with_both ∙ sym (common_found f);
       }

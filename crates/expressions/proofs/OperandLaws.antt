@@ -1,6 +1,6 @@
 -- The rules of operators as the code meets them: classes of operands, one operand, two operands, their common type, and what is refused.
 -- By the form of a type, by the cases of a class, and by the tests' answers one after the other. Assumes nothing.
-use Rattle.std.specs.Prelude.{Ok, Err}
+use Rattle.std.specs.Prelude.{Option as StdOption, Some, None, Ok, Err}
 use Rattle.expressions.specs.Answers.{Answer}
 use mathlib.Core.Path.{◌≡◌, refl, sym, ap, ◌∙◌, subst}
 use mathlib.Core.Bool.{Bool, true, false}
@@ -20,7 +20,6 @@ use Rattle.syntax.specs.Decode.{bit, text_of, wide_of, program, type_at}
 use Rattle.conversion.specs.ConvertError.{ConvertErrorKind, Result, err, WrongOperands, LiteralOutOfRange}
 use Rattle.conversion.specs.Types.{is_int, on_int, is_number, fits, range_error}
 use Rattle.conversion.specs.Expressions.{OperandClass, Bools, Any, Numbers, Integers, operand_class, gives_bool, filter_option, common_of, accepts_unary, accepts_class, unary_type, binary_error, accepted, binary_type}
-use Rattle.records.specs.declared.words.Found.{Found}
 use Rattle.types.specs.Fits.{IsType, fits_at, range_error_at}
 use Rattle.types.specs.Operators.{class_number, result_number}
 use Rattle.types.proofs.FromGood.{is-type}
@@ -38,8 +37,8 @@ unfolding type_result refusal
 refused-at tree m k p a e q = record { is = e ∙ sym (ap type_result q); type = subst (λ (z : Answer ℕ). IsTyped tree z) (sym q) IsTyped.no }
 
 -- a type that was found
-pub found_type_lem : (tree : List ℕ) (f : Found) (y : ℕ) → TypeFound tree f → f ≡ Found.At y → TypeAt tree y
-found_type_lem tree f y t q = found-is (subst (λ (z : Found). TypeFound tree z) q t)
+pub found_type_lem : (tree : List ℕ) (f : StdOption ℕ) (y : ℕ) → TypeFound tree f → f ≡ Some y → TypeAt tree y
+found_type_lem tree f y t q = found-is (subst (λ (z : StdOption ℕ). TypeFound tree z) q t)
 
 -- two expressions with their types, put together
 pub operands-are : (tree : List ℕ) (s : Sides) (a l b r : ℕ) → s ≡ record { left = a; left_type = l; right = b; right_type = r }
@@ -164,7 +163,7 @@ module _ (tree text : List ℕ) (good : Good tree text) (s : Sides) (o : Operand
     unfolding fits_at expr_at program
     right-test = sym (eb text)
 
-    pub common-left : b ≡ true → FoundIs tree (Found.At s.left_type) common
+    pub common-left : b ≡ true → FoundIs tree (Some s.left_type) common
     unfolding common_of pick found_number
     common-left q = record { is = rw (right-test ∙ q); type = TypeFound.a_type o.left_type }
 
@@ -173,11 +172,11 @@ module _ (tree text : List ℕ) (good : Good tree text) (s : Sides) (o : Operand
       unfolding fits_at expr_at program
       left-test = sym (ec text)
 
-      pub common-right : c ≡ true → FoundIs tree (Found.At s.right_type) common
+      pub common-right : c ≡ true → FoundIs tree (Some s.right_type) common
       unfolding common_of pick found_number
       common-right p = record { is = rw (right-test ∙ q, left-test ∙ p); type = TypeFound.a_type o.right_type }
 
-      pub common-none : c ≡ false → FoundIs tree Found.Nothing common
+      pub common-none : c ≡ false → FoundIs tree None common
       unfolding common_of pick found_number
       common-none p = record { is = rw (right-test ∙ q, left-test ∙ p); type = TypeFound.no_type }
 
@@ -224,7 +223,7 @@ module _ (tree text : List ℕ) (good : Good tree text) (s : Sides) (o : Operand
       whole = binary_type (program tree text) (all_keys tree text) e op (expr_at tree text s.left) s.left_type (expr_at tree text s.right) s.right_type
 
       module _ (cl rs : ℕ) (ops : (cl ≡ class_number (operand_class (get_or binary_ops d Or))) × (rs ≡ result_number (gives_bool (get_or binary_ops d Or))))
-          (f : Found) (ef : FoundIs tree f common) where
+          (f : StdOption ℕ) (ef : FoundIs tree f common) where
         class_is : cl ≡ class_number (operand_class op)
         class_is = ops.0 ∙ ap (λ (z : ℕ). class_number (operand_class (get_or binary_ops z Or))) ed
 
@@ -232,11 +231,11 @@ module _ (tree text : List ℕ) (good : Good tree text) (s : Sides) (o : Operand
         result-is = ops.1 ∙ ap (λ (z : ℕ). result_number (gives_bool (get_or binary_ops z Or))) ed
 
         -- no common type
-        pub none-common : f ≡ Found.Nothing → (a : Answer ℕ) → TypeIs tree a error → TypeIs tree a whole
+        pub none-common : f ≡ None → (a : Answer ℕ) → TypeIs tree a error → TypeIs tree a whole
         unfolding binary_type accepted filter_option found_number
         none-common q a h = record { is = rw (sym ef.is ∙ ap found_number q) h.is; type = h.type }
 
-        module _ (y : ℕ) (q : f ≡ Found.At y) (b : Bool)
+        module _ (y : ℕ) (q : f ≡ Some y) (b : Bool)
             (eb : Accepts tree text cl y b) where
           found : common ≡ some y
           unfolding found_number

@@ -1,7 +1,7 @@
 -- The type of an expression by its kind, and what typing owes after each call: a refusal is passed on, a type goes into the rule of the operator, and is remembered.
 -- By the cases of nodes and the laws of turns, in the scope that the open names stand for. Assumes nothing.
-use Rattle.std.specs.Prelude.{Some, Ok, Err}
-use Rattle.std.specs.Prelude as Std
+use Rattle.std.specs.Prelude.{Option as StdOption, Some, None, Ok, Err}
+use Rattle.std.specs.Option.{unwrap_or}
 use Rattle.expressions.specs.declared.answers.Callee as Code
 use Rattle.expressions.specs.Answers.{Answer}
 use mathlib.Core.Path.{◌≡◌, refl, sym, ap, ◌∙◌, subst}
@@ -29,7 +29,6 @@ use Rattle.conversion.specs.ConvertError.{ConvertErrorKind, Result, ok, err, ◌
 use Rattle.conversion.specs.Types.{range_error}
 use Rattle.conversion.specs.Scope as Def
 use Rattle.conversion.specs.Expressions.{Callee, get_type, get_argument_types, resolve_call, resolve_typed, filter_option, common_of, unary_type, accepted, binary_error, binary_type, value_type, return_type, common_type}
-use Rattle.records.specs.declared.words.Found.{Found}
 use Rattle.scope.specs.declared.Scope.{Scope}
 use Rattle.scope.specs.Open.{scope_at}
 use Rattle.types.proofs.FromGood.{is_expr_lem}
@@ -38,7 +37,7 @@ use Rattle.keys.specs.Keys.{all_keys}
 use Rattle.expressions.specs.Slots.{slot_at, beside_at, in_turn, after_visit, slotted, type_in, callee_in, callee_at, Callable, common_in, Beside, Typed, Typing}
 use Rattle.expressions.specs.Calls.{typed_at}
 use Rattle.expressions.specs.declared.operands.Sides.{Sides}
-use Rattle.expressions.specs.Answers.{refusal, type_result, common_result, found_number, found_record, TypeFound, FoundIs, common_at, IsCommon, done_with, callee_of, callee_record, value_result, IsTyped, IsCallee, TypeIs, CalleeIs, binary_type_at, WorksOut, Keepable, Keeps, TypeMeets, ArgsMeet, CallMeets, CommonMeets, SidesMeet}
+use Rattle.expressions.specs.Answers.{refusal, type_result, common_result, found_number, TypeFound, FoundIs, common_at, IsCommon, done_with, callee_of, callee_record, value_result, IsTyped, IsCallee, TypeIs, CalleeIs, binary_type_at, WorksOut, Keepable, Keeps, TypeMeets, ArgsMeet, CallMeets, CommonMeets, SidesMeet}
 use Rattle.syntax.proofs.Records.{expr-unary, expr-binary, expr-call}
 use Rattle.expressions.proofs.SlotLaws.{frame_refl, frame_trans}
 pub use Rattle.expressions.proofs.PartLaws.{expr-low, place_is, call-list, call-low}
@@ -131,7 +130,7 @@ callee_small tree (Ok (Code.Callee.Cast y)) (IsCallee.a_cast h) few = omega (ari
 callee_small tree (Err x) IsCallee.no few = omega arith
 
 -- a type that was found, and a Binary without one, which is refused
-pub found-is : {tree : List ℕ} {y : ℕ} → TypeFound tree (Found.At y) → TypeAt tree y
+pub found-is : {tree : List ℕ} {y : ℕ} → TypeFound tree (Some y) → TypeAt tree y
 found-is (TypeFound.a_type h) = h
 
 pick-refused : (b : Bool) (x y : Result ℕ) (i : ℕ) → (x ≡ ok i → ⊥) → (y ≡ ok i → ⊥) → pick b x y ≡ ok i → ⊥
@@ -321,20 +320,20 @@ module _ (tree text : List ℕ) (good : Good tree text) where
               (type-ok (type_in tree text S b) u y (later_type tree text s sc turn typing s₁ m.frame b u s₂ m₂) v))
 
           beside-common : (y : ℕ) → u ≡ Ok y → (sides : Sides) → sides ≡ record { left = a; left_type = l; right = b; right_type = y } → (d : Answer ℕ)
-              → TypeIs tree d (binary_type_at tree text e sides) → (f : Found) → FoundIs tree f (common_at tree text sides)
-              → (i : ℕ) → d ≡ Ok i → (found_record f < 4294967296) × Beside tree text S e (found_record f)
-          unfolding found_record found_number
-          beside-common y v sides es d z (Found.At o) ef i j = (
+              → TypeIs tree d (binary_type_at tree text e sides) → (f : StdOption ℕ) → FoundIs tree f (common_at tree text sides)
+              → (i : ℕ) → d ≡ Ok i → (unwrap_or f 0 < 4294967296) × Beside tree text S e (unwrap_or f 0)
+          unfolding found_number
+          beside-common y v sides es d z (Some o) ef i j = (
             omega (arith, (found-is ef.type).below, good.few),
             record {
               callee = λ c. absurd (omega (arith, c, kind_at 10 q));
               common = λ c. record { is = shared-is y v sides es ∙ ap (λ (x : Option ℕ). ok x) (sym ef.is); type = found-is ef.type };
             },
           )
-          beside-common y v sides es d z Found.Nothing ef i j = absurd (no-common tree text e sides i (sym ef.is) (type-ok (binary_type_at tree text e sides) d i z.is j))
+          beside-common y v sides es d z None ef i j = absurd (no-common tree text e sides i (sym ef.is) (type-ok (binary_type_at tree text e sides) d i z.is j))
 
           pub right_next_lem : (y : ℕ) → u ≡ Ok y → (sides : Sides) → sides ≡ record { left = a; left_type = l; right = b; right_type = y } → (d : Answer ℕ)
-              → TypeIs tree d (binary_type_at tree text e sides) → (f : Found) → FoundIs tree f (common_at tree text sides) → (w : ℕ) → w ≡ found_record f
+              → TypeIs tree d (binary_type_at tree text e sides) → (f : StdOption ℕ) → FoundIs tree f (common_at tree text sides) → (w : ℕ) → w ≡ unwrap_or f 0
               → WorksOut tree text s sc turn e d w s₂
           right_next_lem y v sides es d z f ef w ew = record {
             frame = frame_trans m.frame m₂.frame;
@@ -467,7 +466,7 @@ module _ (tree text : List ℕ) (good : Good tree text) where
     }
 
   -- the sides by their words
-  pub sides_meet : (e l r : ℕ) → l ≡ word_of tree e A → r ≡ word_of tree e B → (s : List ℕ) (sc : Scope) (turn : ℕ) (a : Answer (Std.Option ℕ)) (s' : List ℕ)
+  pub sides_meet : (e l r : ℕ) → l ≡ word_of tree e A → r ≡ word_of tree e B → (s : List ℕ) (sc : Scope) (turn : ℕ) (a : Answer (StdOption ℕ)) (s' : List ℕ)
       → CommonMeets tree text s sc turn l r a s' → SidesMeet tree text s sc turn e a s'
   sides_meet e l r el er s sc turn a s' m = rw (← el, ← er) m
 

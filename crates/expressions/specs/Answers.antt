@@ -1,6 +1,5 @@
 -- What each answer says, as the definitions say it: a result, or a refusal's kind and place. Assumes nothing: these are definitions.
-use Rattle.std.specs.Prelude.{◌≡◌, ℕ, ◌+◌, ◌*◌, ◌≤◌, ◌<◌, Bool, length, get_or, Some, None, Ok, Err}
-use Rattle.std.specs.Prelude as Std
+use Rattle.std.specs.Prelude.{◌≡◌, ℕ, ◌+◌, ◌*◌, ◌≤◌, ◌<◌, Bool, length, get_or, Option as StdOption, Some, None, Result as StdResult, Ok, Err}
 use mathlib.Core.List.{List, [], ◌∷◌, ◌++◌}
 use Rattle.std.proofs.Math.Option.{Option, none, some}
 use Rattle.records.specs.Layout.{scratch_each}
@@ -12,7 +11,6 @@ use Rattle.syntax.specs.Exprs.{exprs, args_exprs, parts_exprs}
 use Rattle.conversion.specs.ConvertError.{Result, ok, err, ◌>>=◌}
 use Rattle.conversion.specs.Expressions as Defined
 use Rattle.conversion.specs.Expressions.{Callee, CallFunction, CallCast, return_type, value_type, get_argument_types, common_type, OperandClass, accepts_class, unary_type, binary_error, binary_type}
-use Rattle.records.specs.declared.words.Found.{Found}
 use Rattle.scope.specs.declared.Scope.{Scope}
 use Rattle.scope.specs.Open.{scope_at}
 use Rattle.types.specs.Operators.{class_number}
@@ -26,7 +24,7 @@ use Rattle.expressions.specs.Slots.{visits_at, after_visit, slotted, ArgsTyped, 
 
 -- what the code answers: a value, or a refusal
 abbrev pub Answer : Type 0 → Type 0
-Answer A = Std.Result A ConvertError
+Answer A = StdResult A ConvertError
 
 -- a refusal
 unfoldable pub refusal : {A : Type 0} → ConvertError → Result A
@@ -49,43 +47,38 @@ unfolding refusal
 type_result (Ok y) = ok y
 type_result (Err e) = refusal e
 
-unfoldable pub cast_result : Answer (Std.Option ℕ) → Result (Option ℕ)
+unfoldable pub cast_result : Answer (StdOption ℕ) → Result (Option ℕ)
 unfolding refusal
 cast_result (Ok None) = ok none
 cast_result (Ok (Some y)) = ok (some y)
 cast_result (Err e) = refusal e
 
-unfoldable pub common_result : Answer (Std.Option ℕ) → Result (Option ℕ)
+unfoldable pub common_result : Answer (StdOption ℕ) → Result (Option ℕ)
 unfolding refusal
 common_result (Ok (Some y)) = ok (some y)
 common_result (Ok None) = ok none
 common_result (Err e) = refusal e
 
-unfoldable pub found_number : Found → Option ℕ
-found_number (Found.At y) = some y
-found_number Found.Nothing = none
-
--- the word that is kept of it
-unfoldable pub found_record : Found → ℕ
-found_record (Found.At y) = y
-found_record Found.Nothing = 0
+unfoldable pub found_number : StdOption ℕ → Option ℕ
+found_number (Some y) = some y
+found_number None = none
 
 -- a type that was found is one
-pub data TypeFound (tree : List ℕ) : Found → Type 0 where
-  a_type : {y : ℕ} → TypeAt tree y → TypeFound tree (Found.At y)
-  no_type : TypeFound tree Found.Nothing
+pub data TypeFound (tree : List ℕ) : StdOption ℕ → Type 0 where
+  a_type : {y : ℕ} → TypeAt tree y → TypeFound tree (Some y)
+  no_type : TypeFound tree None
 
 -- the type in an answer is one
 pub data IsTyped (tree : List ℕ) : Answer ℕ → Type 0 where
   is : {y : ℕ} → TypeAt tree y → IsTyped tree (Ok y)
   no : {e : ConvertError} → IsTyped tree (Err e)
 
-pub data IsCast (tree : List ℕ) : Answer (Std.Option ℕ) → Type 0 where
+pub data IsCast (tree : List ℕ) : Answer (StdOption ℕ) → Type 0 where
   to : {y : ℕ} → TypeAt tree y → IsCast tree (Ok (Some y))
   not_cast : IsCast tree (Ok None)
   no : {e : ConvertError} → IsCast tree (Err e)
 
-pub data IsCommon (tree : List ℕ) : Answer (Std.Option ℕ) → Type 0 where
+pub data IsCommon (tree : List ℕ) : Answer (StdOption ℕ) → Type 0 where
   is : {y : ℕ} → TypeAt tree y → IsCommon tree (Ok (Some y))
   neither : IsCommon tree (Ok None)
   no : {e : ConvertError} → IsCommon tree (Err e)
@@ -137,12 +130,12 @@ pub record TypeIs (tree : List ℕ) (a : Answer ℕ) (m : Result ℕ) : Type 0 w
   pub is : m ≡ type_result a
   pub type : IsTyped tree a
 
-pub record FoundIs (tree : List ℕ) (r : Found) (o : Option ℕ) : Type 0 where
+pub record FoundIs (tree : List ℕ) (r : StdOption ℕ) (o : Option ℕ) : Type 0 where
   pub is : found_number r ≡ o
   pub type : TypeFound tree r
 
 -- the cast is this one
-pub record CastIs (tree : List ℕ) (a : Answer (Std.Option ℕ)) (m : Result (Option ℕ)) : Type 0 where
+pub record CastIs (tree : List ℕ) (a : Answer (StdOption ℕ)) (m : Result (Option ℕ)) : Type 0 where
   pub is : m ≡ cast_result a
   pub type : IsCast tree a
 
@@ -236,12 +229,12 @@ pub record CallMeets (tree text s : List ℕ) (sc : Scope) (turn r : ℕ) (a : A
   pub adds : (c : Callee) → callee_of tree text a ≡ ok c → Typed tree text (scope_at tree text s sc) turn s (args_exprs (args_at tree text (word_of tree r C))) s'
 
 -- `find_common` of the expressions at records l and r
-pub record CommonMeets (tree text s : List ℕ) (sc : Scope) (turn l r : ℕ) (a : Answer (Std.Option ℕ)) (s' : List ℕ) : Type 0 where
+pub record CommonMeets (tree text s : List ℕ) (sc : Scope) (turn l r : ℕ) (a : Answer (StdOption ℕ)) (s' : List ℕ) : Type 0 where
   pub frame : Frame tree s s'
   pub common : IsCommon tree a
   pub meets : common_type (program tree text) (all_keys tree text) (expr_at tree text l) (expr_at tree text r) (scope_at tree text s sc) ≡ common_result a
   pub adds : (o : Option ℕ) → common_result a ≡ ok o → Typed tree text (scope_at tree text s sc) turn s (exprs (expr_at tree text l) ++ exprs (expr_at tree text r)) s'
 
 -- `common_type` of both sides of the Binary at record e
-abbrev pub SidesMeet : List ℕ → List ℕ → List ℕ → Scope → ℕ → ℕ → Answer (Std.Option ℕ) → List ℕ → Type 0
+abbrev pub SidesMeet : List ℕ → List ℕ → List ℕ → Scope → ℕ → ℕ → Answer (StdOption ℕ) → List ℕ → Type 0
 SidesMeet tree text s sc turn e a s' = CommonMeets tree text s sc turn (word_of tree e A) (word_of tree e B) a s'

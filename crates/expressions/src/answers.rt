@@ -1,4 +1,4 @@
-// What is answered where neither an Option nor a Result says it; specs/Answers.antt says what each case stands for, also of the Results.
+// What is answered where neither an Option nor a Result says it. specs/Answers.antt says what each case stands for, those of the Results too.
 
 // What a call runs: the Rust's Callee.
 #[derive(Clone, Copy)]

@@ -15,7 +15,7 @@ ghost use Rattle.expressions.specs.Answers.{ArgumentIs, found_number, TypeFound}
 use keys::parts::{Part, text_part};
 use records::layout::{TYPE_SLOT_BYTES, TYPE_SLOTS};
 use records::numbers::KIND_VALUE;
-use records::words::{Found, NONE, RECORD_BYTES, WORD_A, WORD_B, WORD_D, kind, load, reference};
+use records::words::{NONE, RECORD_BYTES, WORD_A, WORD_B, WORD_D, kind, load, reference};
 
 // No further cell.
 pub const END: usize = NONE as usize;
@@ -123,7 +123,7 @@ pub(crate) fn count_parameters(tree: &[u8], text: &[u8], first: usize) -> usize
 }
 
 // The first type among the arguments.
-pub(crate) fn target_type(tree: &[u8], text: &[u8], first: usize) -> Found
+pub(crate) fn target_type(tree: &[u8], text: &[u8], first: usize) -> Option<usize>
     requires good { Good tree.now text.now }
     requires args_at { ArgsAt tree.now first }
     ensures { ((s : List ℕ) → found_number result ≡ target_type (typed_at tree.now text.now s first)) × TypeFound tree.now result }
@@ -131,24 +131,24 @@ pub(crate) fn target_type(tree: &[u8], text: &[u8], first: usize) -> Found
     let mut cell = first;
     while cell != END {
         if let Argument::ToType(y) = argument_at(tree, text, cell) {
-            return Found::At(y);
+            return Some(y);
         }
         cell = next_cell(tree, cell);
     }
-    Found::Nothing
+    None
 }
 
 // The type of the first expression among the arguments.
-pub(crate) fn source_type(tree: &[u8], text: &[u8], scratch: &[u8], first: usize) -> Found
+pub(crate) fn source_type(tree: &[u8], text: &[u8], scratch: &[u8], first: usize) -> Option<usize>
     requires { Argued tree.now text.now scratch.now first }
     ensures { (found_number result ≡ source_type (typed_at tree.now text.now scratch.now first)) × TypeFound tree.now result }
 {
     let mut cell = first;
     while cell != END {
         if let Argument::Expr(e) = argument_at(tree, text, cell) {
-            return Found::At(slot(tree, scratch, e));
+            return Some(slot(tree, scratch, e));
         }
         cell = next_cell(tree, cell);
     }
-    Found::Nothing
+    None
 }

@@ -22,7 +22,7 @@ use keys::keys::{name_before, name_head};
 use keys::parts::{Part, is_cast_verb, text_part};
 use records::convert_error::{ConvertError, ConvertErrorKind};
 use records::numbers::KIND_FUNCTION;
-use records::words::{Found, RECORD_BYTES, WORD_A, WORD_C, kind, reference};
+use records::words::{RECORD_BYTES, WORD_A, WORD_C, kind, reference};
 use texts::original;
 use types::casts::can_cast;
 
@@ -69,10 +69,10 @@ fn cast_type(
     ) {
         return Ok(None);
     }
-    let Found::At(to) = target_type(tree, text, first) else {
+    let Some(to) = target_type(tree, text, first) else {
         return Ok(None);
     };
-    let Found::At(from) = source_type(tree, text, scratch, first) else {
+    let Some(from) = source_type(tree, text, scratch, first) else {
         return Ok(Some(to));
     };
     if can_cast(tree, from, to) {
@@ -102,7 +102,7 @@ fn resolve_function(
     requires called { Called tree.now text.now scratch.now call }
     ensures { CalleeIs tree.now text.now result (function_for tree.now text.now scratch.now call r) }
 {
-    if let Found::At(f) = find_exact_function(tree, text, scratch, call) {
+    if let Some(f) = find_exact_function(tree, text, scratch, call) {
         return Ok(Callee::Function(f));
     }
     match find_functions_by_literals(tree, text, scratch, call) {

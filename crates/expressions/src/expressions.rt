@@ -12,13 +12,11 @@ ghost use Rattle.expressions.specs.Answers.{TypeMeets, ArgsMeet, CallMeets, Comm
 use crate::answers::Callee;
 use crate::arguments::{Argument, END, argument_at, next_cell, slot};
 use crate::calls::{callee_at, callee_record, resolve_typed};
-use crate::operands::{
-    binary_type, both_sides, common_of, found_record, leaf_type, unary_type, value_type,
-};
+use crate::operands::{binary_type, both_sides, common_of, leaf_type, unary_type, value_type};
 use crate::turns::{NOTHING, beside, is_typed, keep};
 use records::convert_error::ConvertError;
 use records::numbers::{KIND_BINARY, KIND_CALL, KIND_UNARY};
-use records::words::{Found, WORD_A, WORD_B, WORD_C, kind, reference};
+use records::words::{WORD_A, WORD_B, WORD_C, kind, reference};
 use scope::Scope;
 
 // The type of the expression e, once its names and calls are checked; it is worked out once in a turn.
@@ -69,7 +67,7 @@ fn work_out(
         let sides = both_sides(left, l, right, r);
         let common = common_of(tree, text, sides);
         let a = binary_type(tree, text, e, sides, common);
-        return keep(tree, scratch, turn, e, a, found_record(common));
+        return keep(tree, scratch, turn, e, a, common.unwrap_or(NOTHING));
     }
     if k == KIND_CALL {
         let callee = find_callee(tree, text, scratch, scope, turn, e);
@@ -179,8 +177,5 @@ fn find_common(
 {
     let l = get_type(tree, text, scratch, scope, turn, left)?;
     let r = get_type(tree, text, scratch, scope, turn, right)?;
-    match common_of(tree, text, both_sides(left, l, right, r)) {
-        Found::At(y) => Ok(Some(y)),
-        Found::Nothing => Ok(None),
-    }
+    Ok(common_of(tree, text, both_sides(left, l, right, r)))
 }

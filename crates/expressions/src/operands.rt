@@ -13,18 +13,17 @@ ghost use Rattle.texts.specs.Texts.{Numbered};
 ghost use Rattle.keys.specs.Keys.{all_keys};
 ghost use Rattle.expressions.specs.Slots.{Scoped, type_in};
 ghost use Rattle.conversion.specs.ConvertError.{ok};
-ghost use Rattle.expressions.specs.Answers.{found_record, value_result, IsCallee, Operands, TypeIs, FoundIs, Accepts, unary_type_at, common_at, binary_error_at, binary_type_at};
+ghost use Rattle.expressions.specs.Answers.{value_result, IsCallee, Operands, TypeIs, FoundIs, Accepts, unary_type_at, common_at, binary_error_at, binary_type_at};
 
 use crate::answers::Callee;
 use crate::names::find_name;
-use crate::turns::NOTHING;
 use records::convert_error::{ConvertError, ConvertErrorKind};
 use records::numbers::{
     ADDRESS_OF_CHAR, BIT_NOT, BOOL_TYPE, FLOAT_LONG, FORM_INT, KIND_BOOL, KIND_FLOAT, KIND_INT,
     KIND_NAME, KIND_NULL, KIND_STR, NOT, NULL_TYPE, UNSIGNED_LONG,
 };
-use records::words::{Found, NONE, WORD_D, detail, kind, reference};
-use scope::{Known, Scope};
+use records::words::{NONE, WORD_D, detail, kind, reference};
+use scope::Scope;
 use types::fits::{fits, range_error};
 use types::form::{form, is_number};
 use types::operators::{ANY, BOOL, BOOLS, NUMBERS, operator_of};
@@ -109,28 +108,18 @@ pub(crate) fn both_sides(left: usize, left_type: usize, right: usize, right_type
 }
 
 // The type that both take: a literal takes the type of the other side.
-pub(crate) fn common_of(tree: &[u8], text: &[u8], s: Sides) -> Found
+pub(crate) fn common_of(tree: &[u8], text: &[u8], s: Sides) -> Option<usize>
     requires good { Good tree.now text.now }
     requires operands { Operands tree.now s }
     ensures { FoundIs tree.now result (common_at tree.now text.now s) }
 {
     if fits(tree, s.right, s.right_type, s.left_type) {
-        return Found::At(s.left_type);
+        return Some(s.left_type);
     }
     if fits(tree, s.left, s.left_type, s.right_type) {
-        return Found::At(s.right_type);
+        return Some(s.right_type);
     }
-    Found::Nothing
-}
-
-// The record of the type that was found.
-pub(crate) fn found_record(found: Found) -> usize
-    ensures { result ≡ found_record found }
-{
-    match found {
-        Found::At(y) => y,
-        Found::Nothing => NOTHING,
-    }
+    None
 }
 
 // Where they take no common type that the Binary e accepts: a constant out of the other side's range, the right one
@@ -156,7 +145,7 @@ pub(crate) fn binary_type(
     text: &[u8],
     e: usize,
     s: Sides,
-    common: Found,
+    common: Option<usize>,
 ) -> Result<usize, ConvertError>
     requires good { Good tree.now text.now }
     requires operands { Operands tree.now s }
@@ -165,7 +154,7 @@ pub(crate) fn binary_type(
     ensures { TypeIs tree.now result (binary_type_at tree.now text.now e s) }
 {
     let op = operator_of(detail(tree, e) as usize);
-    if let Found::At(ty) = common {
+    if let Some(ty) = common {
         if accepts(tree, op.operands, ty) {
             if op.result == BOOL {
                 return Ok(BOOL_TYPE);
@@ -240,10 +229,10 @@ fn name_type(
     requires kind { IsKind tree.now kind_name e }
     ensures { TypeIs tree.now result (type_in tree.now text.now (scope_at tree.now text.now scratch.now scope) e) }
 {
-    match find_name(tree, text, scratch, scope, e) {
-        Known::Is(v, _) => Ok(v.1 as usize),
-        Known::Unknown => refuse_type(ConvertErrorKind::UnknownVariable, e),
-    }
+    let Some(known) = find_name(tree, text, scratch, scope, e) else {
+        return refuse_type(ConvertErrorKind::UnknownVariable, e);
+    };
+    Ok(known.var.1 as usize)
 }
 
 // The type of an expression without operands.

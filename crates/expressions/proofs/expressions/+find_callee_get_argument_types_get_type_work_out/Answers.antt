@@ -125,7 +125,7 @@ work_out-binary_type-a-requires t c = record {
 }
 
 pub work_out-keep-requires-then-k-eq-KIND_BINARY : goal.work_out-keep-requires-then-k-eq-KIND_BINARY
-work_out-keep-requires-then-k-eq-KIND_BINARY t c = keep_ready _ _ c.requires.typing.ready.keyed.good _ c.requires.expr.0 _ _ _ c.requires.typing c.requires.expr.1 _ _ _ (right_next_lem _ _ c.requires.typing.ready.keyed.good _ _ c.requires.expr.0 c.kind-k.ensures _ _ _ c.if-k-eq-KIND_BINARY.true _ c.reference-left.ensures _ _ c.get_type-then-k-eq-KIND_BINARY.ensures c.requires.typing _ c.in_ok-l.was _ c.reference-right.ensures _ _ c.get_type-then-k-eq-KIND_BINARY-2.ensures _ c.in_ok-r.was _ c.both_sides-sides.ensures _ c.binary_type-a.ensures _ c.common_of-common.ensures _ c.found_record.ensures)
+work_out-keep-requires-then-k-eq-KIND_BINARY t c = keep_ready _ _ c.requires.typing.ready.keyed.good _ c.requires.expr.0 _ _ _ c.requires.typing c.requires.expr.1 _ _ _ (right_next_lem _ _ c.requires.typing.ready.keyed.good _ _ c.requires.expr.0 c.kind-k.ensures _ _ _ c.if-k-eq-KIND_BINARY.true _ c.reference-left.ensures _ _ c.get_type-then-k-eq-KIND_BINARY.ensures c.requires.typing _ c.in_ok-l.was _ c.reference-right.ensures _ _ c.get_type-then-k-eq-KIND_BINARY-2.ensures _ c.in_ok-r.was _ c.both_sides-sides.ensures _ c.binary_type-a.ensures _ c.common_of-common.ensures _ c.unwrap_or.ensures)
 
 pub work_out-returns-in_err-l : goal.work_out-returns-in_err-l
 work_out-returns-in_err-l t c = let p = err_from_is_err_and c.from_residual-in_err-l.result c.from_residual-in_err-l.ensures.1 in
@@ -136,7 +136,7 @@ work_out-returns-in_err-r t c = let p = err_from_is_err_and c.from_residual-in_e
     rw (p.1, p.2) (right-stop _ _ c.requires.typing.ready.keyed.good _ _ c.requires.expr.0 c.kind-k.ensures _ _ _ c.if-k-eq-KIND_BINARY.true _ c.reference-left.ensures _ _ c.get_type-then-k-eq-KIND_BINARY.ensures c.requires.typing _ c.in_ok-l.was _ c.reference-right.ensures _ _ c.get_type-then-k-eq-KIND_BINARY-2.ensures _ c.in_err-r.was)
 
 pub work_out-returns-then-k-eq-KIND_BINARY : goal.work_out-returns-then-k-eq-KIND_BINARY
-work_out-returns-then-k-eq-KIND_BINARY t c = keep_meets _ _ c.requires.typing.ready.keyed.good _ c.requires.expr.0 _ _ _ c.requires.typing c.requires.expr.1 _ _ _ (right_next_lem _ _ c.requires.typing.ready.keyed.good _ _ c.requires.expr.0 c.kind-k.ensures _ _ _ c.if-k-eq-KIND_BINARY.true _ c.reference-left.ensures _ _ c.get_type-then-k-eq-KIND_BINARY.ensures c.requires.typing _ c.in_ok-l.was _ c.reference-right.ensures _ _ c.get_type-then-k-eq-KIND_BINARY-2.ensures _ c.in_ok-r.was _ c.both_sides-sides.ensures _ c.binary_type-a.ensures _ c.common_of-common.ensures _ c.found_record.ensures) c.ranges.turn.fits _ _ c.keep-then-k-eq-KIND_BINARY.ensures
+work_out-returns-then-k-eq-KIND_BINARY t c = keep_meets _ _ c.requires.typing.ready.keyed.good _ c.requires.expr.0 _ _ _ c.requires.typing c.requires.expr.1 _ _ _ (right_next_lem _ _ c.requires.typing.ready.keyed.good _ _ c.requires.expr.0 c.kind-k.ensures _ _ _ c.if-k-eq-KIND_BINARY.true _ c.reference-left.ensures _ _ c.get_type-then-k-eq-KIND_BINARY.ensures c.requires.typing _ c.in_ok-l.was _ c.reference-right.ensures _ _ c.get_type-then-k-eq-KIND_BINARY-2.ensures _ c.in_ok-r.was _ c.both_sides-sides.ensures _ c.binary_type-a.ensures _ c.common_of-common.ensures _ c.unwrap_or.ensures) c.ranges.turn.fits _ _ c.keep-then-k-eq-KIND_BINARY.ensures
 
 pub work_out-find_callee-callee-requires : goal.work_out-find_callee-callee-requires
 work_out-find_callee-callee-requires t c = (omega (arith, c.decreases), (c.requires.typing, is-kind _ _ c.requires.typing.ready.keyed.good _ _ c.requires.expr.0 c.kind-k.ensures 11 c.if-k-eq-KIND_CALL.true))

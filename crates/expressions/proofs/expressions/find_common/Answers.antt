@@ -4,7 +4,7 @@ use Rattle.std.proofs.lemmas.Result.{err_from_is_err_and}
 use Rattle.expressions.proofs.TurnLaws.{typing_next}
 use Rattle.expressions.proofs.TypingLaws.{is-typed}
 use Rattle.expressions.proofs.OperandLaws.{operands-are}
-use Rattle.expressions.proofs.CommonLaws.{left-refused, right-refused, takes_one, takes_none}
+use Rattle.expressions.proofs.CommonLaws.{left-refused, right-refused, takes}
 use Rattle.expressions.proofs.expressions.find_common.Goals as goal
 
 pub get_type-requires-2 : goal.get_type-requires-2
@@ -25,8 +25,5 @@ pub returns-in_err-r : goal.returns-in_err-r
 returns-in_err-r c = let p = err_from_is_err_and c.from_residual-in_err-r.result c.from_residual-in_err-r.ensures.1 in
     rw (p.1, p.2) (right-refused _ _ _ _ _ _ _ _ _ c.get_type.ensures c.requires.typing _ c.in_ok-l.was _ _ c.get_type-2.ensures _ c.in_err-r.was)
 
-pub returns-in-At : goal.returns-in-At
-returns-in-At c = takes_one _ _ _ _ _ _ _ _ _ c.get_type.ensures c.requires.typing _ c.in_ok-l.was _ _ c.get_type-2.ensures _ c.in_ok-r.was _ c.both_sides.ensures _ c.common_of.ensures _ c.in-At.is
-
-pub returns-in-Nothing : goal.returns-in-Nothing
-returns-in-Nothing c = takes_none _ _ _ _ _ _ _ _ _ c.get_type.ensures c.requires.typing _ c.in_ok-l.was _ _ c.get_type-2.ensures _ c.in_ok-r.was _ c.both_sides.ensures _ c.common_of.ensures c.in-Nothing.is
+pub returns : goal.returns
+returns c = takes _ _ _ _ _ _ _ _ _ c.get_type.ensures c.requires.typing _ c.in_ok-l.was _ _ c.get_type-2.ensures _ c.in_ok-r.was _ c.both_sides.ensures _ c.common_of.ensures
