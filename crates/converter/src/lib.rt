@@ -20,7 +20,7 @@ use functions::functions::{AllFunctions, check_main, get_all_functions};
 use ir::cut::cut_tables;
 use ir::lent::{COUNT_RECORDS, COUNTERS, counters_of};
 use ir::structs::Counters;
-use judge::{Judged, clear, clear_outputs, has_place, judge_rows, lengths_of};
+use judge::{clear, clear_outputs, has_place, judge_rows, lengths_of};
 use keys::keys::{chain_functions, function_at};
 use records::convert_error::ConvertError;
 use records::words::RECORD_BYTES;
@@ -37,12 +37,6 @@ pub struct Counts {
     pub strings: usize,
     pub floats: usize,
     pub visits: usize,
-}
-
-#[derive(Clone, Copy)]
-pub enum Answer {
-    Converted(Counts),
-    Refused(ConvertError),
 }
 
 fn counts_of(k: Counters, visits: usize) -> Counts
@@ -72,14 +66,12 @@ fn convert_all(
     requires turns { Turns tree.now scratch.old (empty_counters (records tree.now)) × (counted k.old ≡ empty_counters (records tree.now)) }
     ensures { AllConvertTo tree.now text.now arena.old scratch.old (finished_with k.new result) arena.new scratch.new }
 {
-    let mut j = 0;
-    while j < count {
+    for j in 0..count {
         let f = function_at(tree, scratch, j);
         match convert_func(tree, text, arena, scratch, k, f) {
             Finished::Refused(e) => return Finished::Refused(e),
             Finished::Done => {}
         }
-        j += 1;
     }
     Finished::Done
 }
@@ -125,14 +117,14 @@ fn finish(
     functions: &mut [u8],
     strings: &mut [u8],
     floats: &mut [u8],
-) -> Answer
+) -> Result<Counts, ConvertError>
     requires { CutAfforded (finished_with k.now done) (outputs instructions.old variables.old labels.old functions.old strings.old floats.old) }
     ensures { FinishesIn (finished_with k.now done) visits result (outputs instructions.old variables.old labels.old functions.old strings.old floats.old) (outputs instructions.new variables.new labels.new functions.new strings.new floats.new) }
 {
     match done {
         Finished::Refused(e) => {
             clear_outputs(instructions, variables, labels, functions, strings, floats);
-            Answer::Refused(e)
+            Err(e)
         }
         Finished::Done => {
             let c = counters_of(k);
@@ -145,7 +137,7 @@ fn finish(
                 strings,
                 floats,
             );
-            Answer::Converted(counts_of(c, visits))
+            Ok(counts_of(c, visits))
         }
     }
 }
@@ -162,7 +154,7 @@ fn convert_good(
     strings: &mut [u8],
     floats: &mut [u8],
     scratch: &mut [u8],
-) -> Answer
+) -> Result<Counts, ConvertError>
     requires good { Good tree.now text.now × (0 < records tree.now) }
     requires seven_long { SevenLong (records tree.now) (buffers instructions.old variables.old labels.old functions.old strings.old floats.old scratch.old) }
     ensures { AsTheRust tree.now text.now needs_main (buffers instructions.old variables.old labels.old functions.old strings.old floats.old scratch.old) (answer_from tree.now result) (buffers instructions.new variables.new labels.new functions.new strings.new floats.new scratch.new) }
@@ -199,18 +191,17 @@ pub fn convert(
     strings: &mut [u8],
     floats: &mut [u8],
     scratch: &mut [u8],
-) -> Answer
+) -> Result<Counts, ConvertError>
     ensures { Promised tree.now text.now needs_main (buffers instructions.old variables.old labels.old functions.old strings.old floats.old scratch.old) result (buffers instructions.new variables.new labels.new functions.new strings.new floats.new scratch.new) }
 {
     let l = lengths_of(instructions, variables, labels, functions, strings, floats);
     let judged = judge_rows(tree, text, l, scratch);
-    if let Judged::Refused(e) = judged {
+    if let Err(e) = judged {
         if has_place(judged) {
             clear_outputs(instructions, variables, labels, functions, strings, floats);
             clear(scratch);
-            return Answer::Refused(e);
         }
-        return Answer::Refused(e);
+        return Err(e);
     }
     convert_good(
         tree,
