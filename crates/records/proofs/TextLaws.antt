@@ -20,17 +20,8 @@ text-length t o n = length-take n (drop o t) ∙ ap (min n) (length-drop o t)
 min-left : (a b : ℕ) → a ≤ b → a ≡ min a b
 min-left a b h = omega arith
 
-min-right : (a b : ℕ) → b ≤ a → b ≡ min a b
-min-right a b h = omega arith
-
-pub reach_none : (t : List ℕ) (o n : ℕ) → length t ≤ o → 0 ≡ length (text_at t o n)
-reach_none t o n h = let z : 0 ≡ length t - o = omega arith in min-right n 0 (omega arith) ∙ ap (min n) z ∙ sym (text-length t o n)
-
 pub reach_whole : (t : List ℕ) (o n : ℕ) → n ≤ length t - o → n ≡ length (text_at t o n)
 reach_whole t o n h = min-left n (length t - o) h ∙ sym (text-length t o n)
-
-pub reach_end : (t : List ℕ) (o n : ℕ) → length t - o < n → length t - o ≡ length (text_at t o n)
-reach_end t o n h = min-right n (length t - o) (omega arith) ∙ sym (text-length t o n)
 
 -- a text that has bytes lies within the buffer
 pub text-inside : (t : List ℕ) (o n x : ℕ) → x ≡ length (text_at t o n) → (x ≡ 0 → ⊥) → o + x ≤ length t
@@ -145,13 +136,6 @@ module _ (t u : List ℕ) (i j n k : ℕ) (x r : Bool) (fit : k ≤ n) (e : r �
 module _ (t u : List ℕ) (a b n : ℕ) where
   abbrev pub Same : ℕ → Type 0
   Same i = same_text (text_at t a n) (text_at u b n) ≡ same_text (text_at t (a + i) (n - i)) (text_at u (b + i) (n - i))
-
-  pub byte-none : Same (min 0 n)
-  byte-none =
-      let za : a ≡ a + min 0 n = omega arith in
-      let zb : b ≡ b + min 0 n = omega arith in
-      let zn : n ≡ n - min 0 n = omega arith in
-      ap₂ same_text (ap₂ (text_at t) za zn) (ap₂ (text_at u) zb zn)
 
   pub byte_past : (k : ℕ) → n ≤ k → Same (min k n) → Same (min (k + 1) n)
   byte_past k h w = let z : min (k + 1) n ≡ min k n = omega arith in rw z w

@@ -66,18 +66,16 @@ pub fn number(kind: ConvertErrorKind) -> u32
 }
 
 // Word k of the place's span, where the place is a record and the number comes with a span.
+#[tactic(auto, unfolding(crate::specs::Answer::span_word, crate::specs::Answer::has_span, laws::specs::Fix::pick))]
 fn span_word(tree: &[u8], number: u32, place: u32, k: usize) -> u32
     requires { k < 7 }
     ensures { result ≡ span_word tree.now number place k }
 {
     let r = place as usize;
-    if r >= tree.len() / RECORD_BYTES {
+    if r >= tree.len() / RECORD_BYTES || matches!(number, NO_MAIN | BAD_TREE..=SHORT_BUFFER) {
         return 0;
     }
-    if (number != NO_MAIN) & !((BAD_TREE <= number) & (number <= SHORT_BUFFER)) {
-        return word(tree, r, k);
-    }
-    0
+    word(tree, r, k)
 }
 
 // A refusal of this tree in document 01's words.

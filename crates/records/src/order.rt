@@ -14,6 +14,7 @@ fn common_parts<const N: usize>(text: &[u8], a: usize, b: usize, n: usize, from:
     ensures { result ≤ common_of (text_at text.now a n) (text_at text.now b n) }
 {
     let mut k = from;
+    // A `for` over the parts would count beside k, which is what is asked, and break at a part that differs.
     while n - k >= 8 * N && same_eights::<N>(text, a + k, text, b + k) {
         k += 8 * N;
     }
