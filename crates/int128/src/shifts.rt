@@ -1,7 +1,7 @@
 // Left and right shifts. A count of 128 or more, or below 0, gives nothing.
 ghost use Rattle.std.specs.Prelude.{◌≡◌, ◌*◌, ◌/◌, ◌%◌, ◌^◌, ◌<◌};
 ghost use Rattle.int128.specs.Value.{bits_of, value_of, checked_of};
-ghost use Rattle.int128.specs.Ops.{shl_of, shr_of, by_count};
+ghost use Rattle.int128.specs.Ops.{shl_of, shr_of, by_count, CountStands};
 
 use super::{Int128, SIGN};
 
@@ -49,6 +49,16 @@ pub(crate) fn shr_bits(x: Int128, n: u32) -> Int128
     }
 }
 
+// A count of 128 bits as one of 32, where it is below 128; what answers nothing from 128 on answers the same by both.
+fn shift_count(count: Int128) -> Option<u32>
+    ensures { CountStands result (value_of count) }
+{
+    if count.hi == 0 && count.lo < 128 {
+        return Some(count.lo as u32);
+    }
+    None
+}
+
 impl Int128 {
     pub fn checked_shl(self, n: u32) -> Option<Int128>
         ensures { checked_of result ≡ shl_of (value_of self) n }
@@ -76,22 +86,12 @@ impl Int128 {
     pub fn checked_shl_by(self, count: Int128) -> Option<Int128>
         ensures { checked_of result ≡ by_count (shl_of (value_of self)) (value_of count) }
     {
-        if count.hi == 0 {
-            if count.lo < 128 {
-                return self.checked_shl(count.lo as u32);
-            }
-        }
-        None
+        self.checked_shl(shift_count(count)?)
     }
 
     pub fn checked_shr_by(self, count: Int128) -> Option<Int128>
         ensures { checked_of result ≡ by_count (shr_of (value_of self)) (value_of count) }
     {
-        if count.hi == 0 {
-            if count.lo < 128 {
-                return self.checked_shr(count.lo as u32);
-            }
-        }
-        None
+        self.checked_shr(shift_count(count)?)
     }
 }
