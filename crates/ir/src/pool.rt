@@ -44,8 +44,6 @@ fn add_string(arena: &mut [u8], k: Counters, o: usize, offset: u32, len: u32) ->
 {
     let v = k.strings;
     let number = v as u32;
-    let mut next = k;
-    next.strings = v + 1;
     put_pair(arena, STRINGS * k.records + STRING_BYTES * v, offset, len);
     put_word(
         arena,
@@ -55,7 +53,10 @@ fn add_string(arena: &mut [u8], k: Counters, o: usize, offset: u32, len: u32) ->
     put_word(arena, STRING_SLOTS * k.records + SEARCH_BYTES * o, number);
     PoolNumber {
         number,
-        counters: next,
+        counters: Counters {
+            strings: v + 1,
+            ..k
+        },
     }
 }
 
@@ -124,8 +125,6 @@ fn add_float(arena: &mut [u8], k: Counters, w: Four, b: usize, last: usize) -> P
 {
     let v = k.floats;
     let number = v as u32;
-    let mut next = k;
-    next.floats = v + 1;
     put_four(arena, FLOATS * k.records + FLOAT_BYTES * v, w);
     put_link(
         arena,
@@ -136,7 +135,7 @@ fn add_float(arena: &mut [u8], k: Counters, w: Four, b: usize, last: usize) -> P
     );
     PoolNumber {
         number,
-        counters: next,
+        counters: Counters { floats: v + 1, ..k },
     }
 }
 

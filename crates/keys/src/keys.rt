@@ -146,11 +146,7 @@ pub fn find_key(tree: &[u8], text: &[u8], scratch: &[u8], number: usize) -> Opti
     ensures { FindsKey tree.now text.now scratch.now number result }
 {
     let n = tree.len() / RECORD_BYTES;
-    let w = index(load(scratch, KEY_SLOTS * n + KEY_SLOT_BYTES * number));
-    if w == 0 {
-        return None;
-    }
-    Some(w - 1)
+    index(load(scratch, KEY_SLOTS * n + KEY_SLOT_BYTES * number)).checked_sub(1)
 }
 
 // The function that is entered with the key of function f.

@@ -122,20 +122,19 @@ impl Scope {
             return None;
         }
         let w = Four(offset, len, v.0, 2 * ty + mark(constant));
-        let mut next = self;
-        next.names = count + 1;
         put_four(scratch, OPEN_NAMES * n + OPEN_NAME_BYTES * count, w);
         put_word(scratch, NAME_SLOTS * n + NAME_SLOT_BYTES * o, count as u32);
-        Some(next)
+        Some(Scope {
+            names: count + 1,
+            ..self
+        })
     }
 
     // Inside the loop of this record.
     pub fn with_loop(self, r: u32) -> Scope
         ensures { result ≡ within r self }
     {
-        let mut next = self;
-        next.inner = r;
-        next
+        Scope { inner: r, ..self }
     }
 
     // The innermost loop around this place, if there is one.
