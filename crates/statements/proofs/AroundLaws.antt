@@ -20,7 +20,7 @@ use Rattle.syntax.specs.Syntax.{UnaryOp, BinaryOp, Args, Program, Function}
 use Rattle.syntax.specs.Decode.{program}
 use Rattle.syntax.specs.Places.{IsExpr, IsKind, TypeAt, FunctionAt, function_of}
 use Rattle.syntax.proofs.Records.{function_rec}
-use Rattle.conversion.specs.ConvertError.{Result, ok, err, WouldPanic}
+use Rattle.conversion.specs.ConvertError.{Result, ok, WouldPanic}
 use Rattle.conversion.specs.Ir as Ir
 use Rattle.conversion.specs.Ir.{OVar, Unary, Binary, Cast, Call, logic_rhs, logic_end, ◌>>=◌, ◌>>◌, pure, emit, label_id}
 use Rattle.conversion.specs.Expressions.{Functions, Callee, CallFunction, CallCast}
@@ -41,7 +41,7 @@ use Rattle.laws.proofs.FixLaws.{pick_yes, pick_no}
 use Rattle.scope.specs.Open.{scope_at}
 use Rattle.keys.specs.Keys.{all_keys}
 use Rattle.expressions.specs.Slots.{common_in}
-use Rattle.expressions.specs.Answers.{Answer, refusal, type_result, common_result, callee_of, IsTyped, IsCommon, IsCallee, SidesMeet}
+use Rattle.expressions.specs.Answers.{Answer, type_result, common_result, callee_of, IsTyped, IsCommon, IsCallee, SidesMeet}
 use Rattle.expressions.proofs.TypingLaws.{left-expr, right-expr}
 use Rattle.statements.specs.Lent.{Converter, Converted, Fitted}
 use Rattle.statements.specs.Stack.{operand_at, stack_at}
