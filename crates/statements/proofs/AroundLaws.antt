@@ -20,7 +20,7 @@ use Rattle.syntax.specs.Syntax.{UnaryOp, BinaryOp, Args, Program, Function}
 use Rattle.syntax.specs.Decode.{program}
 use Rattle.syntax.specs.Places.{IsExpr, IsKind, TypeAt, FunctionAt, function_of}
 use Rattle.syntax.proofs.Records.{function_rec}
-use Rattle.conversion.specs.ConvertError.{Result, ok, err, WouldPanic}
+use Rattle.conversion.specs.ConvertError.{Result, ok, WouldPanic}
 use Rattle.conversion.specs.Ir as Ir
 use Rattle.conversion.specs.Ir.{OVar, Unary, Binary, Cast, Call, logic_rhs, logic_end, ◌>>=◌, ◌>>◌, pure, emit, label_id}
 use Rattle.conversion.specs.Expressions.{Functions, Callee, CallFunction, CallCast}
@@ -41,7 +41,7 @@ use Rattle.laws.proofs.FixLaws.{pick_yes, pick_no}
 use Rattle.scope.specs.Open.{scope_at}
 use Rattle.keys.specs.Keys.{all_keys}
 use Rattle.expressions.specs.Slots.{common_in}
-use Rattle.expressions.specs.Answers.{Answer, refusal, type_result, common_result, callee_of, IsTyped, IsCommon, IsCallee, SidesMeet}
+use Rattle.expressions.specs.Answers.{Answer, type_result, common_result, callee_of, IsTyped, IsCommon, IsCallee, SidesMeet}
 use Rattle.expressions.proofs.TypingLaws.{left-expr, right-expr}
 use Rattle.statements.specs.Lent.{Converter, Converted, Fitted}
 use Rattle.statements.specs.Stack.{operand_at, stack_at}
@@ -162,7 +162,7 @@ module _ {tree text s s' : List ℕ} (c : Converter) (e y : ℕ) {t : Answer (St
   unfolding operand_type common_result type_result
   common-refused x q = record { frame = m.frame; typed = IsTyped.no; meets = meets_as (Err x) (ap (λ (z : Answer (Std.Option ℕ)). operand_type (common_result z) y) q) }
 
-  pub common-is : (z : ℕ) → t ≡ Ok (Some z) → OperandTyped tree text s c e y (Ok z) s'
+  common-is : (z : ℕ) → t ≡ Ok (Some z) → OperandTyped tree text s c e y (Ok z) s'
   unfolding operand_type common_result type_result
   common-is z q = record {
     frame = m.frame;
@@ -170,7 +170,7 @@ module _ {tree text s s' : List ℕ} (c : Converter) (e y : ℕ) {t : Answer (St
     meets = meets_as (Ok z) (ap (λ (z : Answer (Std.Option ℕ)). operand_type (common_result z) y) q);
   }
 
-  pub common-neither : t ≡ Ok None → TypeAt tree y → OperandTyped tree text s c e y (Ok y) s'
+  common-neither : t ≡ Ok None → TypeAt tree y → OperandTyped tree text s c e y (Ok y) s'
   unfolding operand_type common_result type_result
   common-neither q h = record { frame = m.frame; typed = IsTyped.is h; meets = meets_as (Ok y) (ap (λ (z : Answer (Std.Option ℕ)). operand_type (common_result z) y) q) }
 
@@ -184,11 +184,11 @@ module _ {tree text s s' : List ℕ} (c : Converter) (e : ℕ) {t : Answer (Std.
   sides_types_lem : (o : Option ℕ) → common_result t ≡ ok o → (u : Answer ℕ) → CommonTyped c e tree text s u s'
   sides_types_lem o q u z h = m.adds o q
 
-  pub is-types : (z : ℕ) → t ≡ Ok (Some z) → (u : Answer ℕ) → CommonTyped c e tree text s u s'
+  is-types : (z : ℕ) → t ≡ Ok (Some z) → (u : Answer ℕ) → CommonTyped c e tree text s u s'
   unfolding common_result
   is-types z q u = sides_types_lem (some z) (ap common_result q) u
 
-  pub neither-types : t ≡ Ok None → (u : Answer ℕ) → CommonTyped c e tree text s u s'
+  neither-types : t ≡ Ok None → (u : Answer ℕ) → CommonTyped c e tree text s u s'
   unfolding common_result
   neither-types q u = sides_types_lem none (ap common_result q) u
 
@@ -242,10 +242,6 @@ call-adds {tree = tree} {text = text} {l₁ = l₁} {l₂ = l₂} F e {f = f} {d
 
 -- the call behind its values, by what it runs
 module _ (tree text : List ℕ) {callee : Answer Code-Callee.Callee} {to : Callee} (m : callee_of tree text callee ≡ ok to) where
-  pub callee-refused : {x : ConvertError} → callee ≡ Err x → ⊥
-  unfolding callee_of refusal
-  callee-refused {x} q = let e : err x.kind x.place ≡ ok to = sym (ap (callee_of tree text) q) ∙ m in let z : ◌≡◌ {A = ℕ} 0 1 = cc in omega arith
-
   pub callee-cast : {y : ℕ} → callee ≡ Ok (Code-Callee.Callee.Cast y) → CallCast y ≡ to
   unfolding callee_of
   callee-cast {y} q = let e : ok (CallCast y) ≡ ok to = sym (ap (callee_of tree text) q) ∙ m in cc

@@ -26,7 +26,6 @@ use Rattle.statements.specs.Answers.{States, Finishes, stated_of, stated_with}
 use Rattle.statements.specs.Turns.{Turns, Visited, Fresh, InTurn, TypedIn, own_types, head_types, for_types, StatesTyped, FinishesTyped, StatementVisited, FinishedVisited, BlockVisited}
 use Rattle.statements.proofs.TurnLaws.{turns_refl, stay_typed, fresh_begins, fresh_in_turn, turn-over, visited_later, visited-next}
 use Rattle.statements.proofs.StatedLaws.{finished-next}
-use Rattle.statements.proofs.HeadLaws.{refused-finished}
 use Rattle.statements.proofs.BlockLaws.{begun}
 use Rattle.statements.proofs.BlockTurns.{visits_from}
 

@@ -33,7 +33,6 @@ use Rattle.texts.proofs.TextLaws.{own-number, numbers_apart}
 use Rattle.types.specs.declared.size.Bytes.{Bytes}
 use Rattle.types.specs.Sizes.{exact_size, bytes_for, exact_bytes, size_at}
 use Rattle.ir.specs.declared.structs.Counters.{Counters}
-use Rattle.ir.specs.declared.structs.VarId.{VarId}
 use Rattle.ir.specs.declared.structs.Operand.{Operand}
 use Rattle.ir.specs.declared.floats.FloatBits.{FloatBits}
 use Rattle.ir.specs.declared.pool.PoolNumber.{PoolNumber}

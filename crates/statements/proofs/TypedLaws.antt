@@ -3,7 +3,7 @@
 use Rattle.std.specs.Prelude.{Ok}
 use Rattle.expressions.specs.declared.answers.Callee as Code-Callee
 use mathlib.Core.Path.{◌≡◌, refl, sym, ◌∙◌, subst}
-use mathlib.Core.List.{List, [], ◌∷◌, ◌++◌}
+use mathlib.Core.List.{List, [], ◌++◌}
 use Prim.Native.Nat.{ℕ, ◌≤◌}
 use native.Mathlib.Omega.{arith}
 use lib.Dec.{leb, ltb}

@@ -1,7 +1,7 @@
 -- The functions that convert an expression meet their contracts. Their measures are 4e + 3, 4e + 2 for a Binary, 4e + 1 for what it is made of, and 4e for a call's values: a call goes to a lower record, or down this order.
 -- Each need is a law of ExprLaws or of ArgsLaws; the loop's invariant is `ArgsLeft`, its measure the cell's number. Assumes nothing.
 use Rattle.std.proofs.lemmas.Result.{err_from_is_err_and}
-use mathlib.Core.List.{List, [], ◌∷◌}
+use mathlib.Core.List.{List}
 use Rattle.statements.specs.declared.answers.Converter.{Converter}
 use Rattle.statements.specs.Lent.{at, converted, converted_args}
 use mathlib.Core.Path.{◌≡◌, refl, sym, ap, ◌∙◌, subst}

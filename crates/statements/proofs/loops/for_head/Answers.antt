@@ -1,7 +1,6 @@
 -- A For before its body: its variable, and its turns in the scope around it.
 -- By what the two parts owe, one after the other. Assumes nothing.
 use Rattle.std.proofs.lemmas.Result.{err_from_is_err_and}
-use native.Mathlib.Omega.{arith}
 use mathlib.Core.Path.{ap}
 use Rattle.statements.proofs.PlainTurns.{refused-stated}
 use Rattle.statements.proofs.ForLaws.{head_not, head_asks, head_turns-not, head_done, head_in-turn, head_typed}

@@ -1,7 +1,6 @@
 -- The If before its then-block.
 -- The condition and then a jump. Assumes nothing.
 use Rattle.std.proofs.lemmas.Result.{err_from_is_err_and}
-use native.Mathlib.Omega.{arith}
 use mathlib.Core.Path.{ap}
 use Rattle.statements.specs.Turns.{value_types}
 use Rattle.statements.proofs.HeadLaws.{record_inside, if_mark, if_cond_requires, if_jump_requires, if-refused, if-done, refused-finished, operand-typed}

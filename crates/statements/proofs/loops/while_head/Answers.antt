@@ -1,7 +1,6 @@
 -- The While before its body.
 -- A label, the condition and then a jump. Assumes nothing.
 use Rattle.std.proofs.lemmas.Result.{err_from_is_err_and}
-use native.Mathlib.Omega.{arith}
 use mathlib.Core.Path.{ap}
 use Rattle.statements.specs.Turns.{value_types}
 use Rattle.statements.proofs.HeadLaws.{while_cond_requires, while_jump_requires, while_refused, while_done, refused-finished, operand-typed}

@@ -2,7 +2,6 @@
 -- Each answer is the definition's, part by part. Assumes nothing.
 use Rattle.std.proofs.lemmas.Result.{err_from_is_err_and}
 use mathlib.Core.Path.{ap}
-use native.Mathlib.Omega.{arith}
 use Rattle.statements.proofs.PlainTurns.{typing_in, refused-stated}
 use Rattle.statements.proofs.ConvertLaws.{converting_after}
 use Rattle.statements.proofs.InitLaws.{value-expr, value_afforded, value_checks, copy-room, assign-stop, assign_untyped, assign_unfit, assign-done, assign-turn, assign_types_lem}

@@ -1,7 +1,6 @@
 -- A call statement whose expression is a call.
 -- By what it runs: a function is called, a cast is refused. Assumes nothing.
 use Rattle.std.proofs.lemmas.Result.{err_from_is_err_and}
-use native.Mathlib.Omega.{arith}
 use mathlib.Core.Path.{ap, ◌∙◌}
 use Rattle.std.specs.Prelude.{Ok}
 use Rattle.statements.proofs.PlainTurns.{typing_in, refused-stated}

@@ -1,7 +1,6 @@
 -- A call statement, by whether its expression is a call.
 -- One that is none is typed and never converted. Assumes nothing.
 use Rattle.std.proofs.lemmas.Result.{err_from_is_err_and}
-use native.Mathlib.Omega.{arith}
 use mathlib.Core.Path.{sym, ◌∙◌}
 use Rattle.expressions.proofs.TypingLaws.{expr-low}
 use Rattle.statements.proofs.PlainTurns.{typing_in, refused-stated}

@@ -1,7 +1,6 @@
 -- The operand of a condition, which is a Bool.
 -- It is typed first; any other type is refused. Assumes nothing.
 use Rattle.std.proofs.lemmas.Result.{err_from_is_err_and}
-use native.Mathlib.Omega.{arith}
 use Rattle.statements.proofs.PlainTurns.{typing_in, value-next}
 use Rattle.statements.proofs.TypedLaws.{refused-types, typed-in_turn}
 use Rattle.statements.proofs.StatedLaws.{type_converting}

@@ -1,6 +1,5 @@
 -- An Init: of a new name, or of a known one, which a plain Init assigns to.
 -- By the mark of the record and what is found. Assumes nothing.
-use native.Mathlib.Omega.{arith}
 use Rattle.statements.proofs.InitLaws.{init_asked, known-typed, init_constant, init_unknown, init_known, known-types}
 use Rattle.statements.specs.Lent.{at}
 use Rattle.statements.proofs.statements.convert_init.Goals as goal

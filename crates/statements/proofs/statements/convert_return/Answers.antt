@@ -1,7 +1,6 @@
 -- A Return, by the type of its value and that of its function.
 -- Typed first; the function's type is word D of its record. Assumes nothing.
 use Rattle.std.proofs.lemmas.Result.{err_from_is_err_and}
-use native.Mathlib.Omega.{arith}
 use Rattle.expressions.proofs.TypingLaws.{is-typed}
 use Rattle.statements.proofs.PlainTurns.{typing_in, refused-stated}
 use Rattle.statements.proofs.TypedLaws.{typed-in_turn}

@@ -2,7 +2,6 @@
 -- Each answer is the definition's, part by part. Assumes nothing.
 use Rattle.std.proofs.lemmas.Result.{err_from_is_err_and}
 use mathlib.Core.Path.{ap}
-use native.Mathlib.Omega.{arith}
 use Rattle.statements.proofs.PlainTurns.{typing_in, refused-stated}
 use Rattle.statements.proofs.TypedLaws.{typed-in_turn}
 use Rattle.statements.proofs.StatedLaws.{type_converting}
