@@ -51,7 +51,7 @@ use Rattle.statements.proofs.EmitLaws.{var_adds}
 use Rattle.statements.proofs.StayLaws.{stays_refl, stays_then, loop-outside}
 use Rattle.statements.proofs.StatedLaws.{finished-next, finished-stop}
 use Rattle.statements.proofs.TurnLaws.{turns_refl, turns_stay, turns_later, visits_stay, visited_stay, visited_later}
-use Rattle.functions.specs.declared.parameters.Parameters.{Parameters}
+use Rattle.std.specs.Prelude.{Result as StdResult, Ok, Err}
 use Rattle.functions.specs.Parameters.{parameter_of, with_params, empty_in, ParametersMeet}
 use Rattle.functions.proofs.Members.{function_at-most}
 use Rattle.functions.specs.Bodies.{new_vars, begun, FunctionsAfforded, FunctionSpent, FunctionStands, FunctionDone, ConvertsFunction, body_steps, BodyStands, BodyDone, ConvertsBody, BodyAs, FunctionVisited}
@@ -312,22 +312,22 @@ module _ (tree text : List ℕ) (f : ℕ) (s s₁ : List ℕ) where
     pub function : sc.function ≡ f
     pub names : sc.names ≡ length (function_of tree text f).params
 
-  declared : {a : Parameters} → ParametersMeet tree text f s s₁ a → {sc : Scope} → a ≡ Parameters.Done sc → Declared sc
+  declared : {a : StdResult Scope ConvertError} → ParametersMeet tree text f s s₁ a → {sc : Scope} → a ≡ Ok sc → Declared sc
   unfolding scope_at
   declared p {sc} q = go (subst (ParametersMeet tree text f s s₁) q p)
     where
       count : with_params (function_of tree text f).params 0 (empty_in tree text f) ≡ ok (scope_at tree text s₁ sc) → sc.names ≡ length (function_of tree text f).params
       count e = omega (arith, names_more (function_of tree text f).params 0 (empty_in tree text f) (scope_at tree text s₁ sc) e, open_count text s₁ sc.records sc.names)
 
-      go : ParametersMeet tree text f s s₁ (Parameters.Done sc) → Declared sc
+      go : ParametersMeet tree text f s s₁ (Ok sc) → Declared sc
       go (ParametersMeet.done asked ready inner function only bytes) = record { asked = asked; ready = ready; no_loop = inner; function = function; names = count asked }
 
-  not_declared : {a : Parameters} → ParametersMeet tree text f s s₁ a → {x : ConvertError} → a ≡ Parameters.Refused x
+  not_declared : {a : StdResult Scope ConvertError} → ParametersMeet tree text f s s₁ a → {x : ConvertError} → a ≡ Err x
       → with_params (function_of tree text f).params 0 (empty_in tree text f) ≡ err x.kind x.place
   unfolding refusal
   not_declared p {x} q = go (subst (ParametersMeet tree text f s s₁) q p)
     where
-      go : ParametersMeet tree text f s s₁ (Parameters.Refused x) → with_params (function_of tree text f).params 0 (empty_in tree text f) ≡ err x.kind x.place
+      go : ParametersMeet tree text f s s₁ (Err x) → with_params (function_of tree text f).params 0 (empty_in tree text f) ≡ err x.kind x.place
       go (ParametersMeet.refused asked only bytes) = asked
 
 -- ---- the function
@@ -448,7 +448,7 @@ module _ {tree text l s : List ℕ} {f : ℕ} {k : Counters} (keyed : Keyed tree
   unfolding function_records
   vars-room = record { room = room; affords = omega (arith, h.tables, room) }
 
-  module _ {b : Bool} (eb : b ≡ is_some (function_of tree text f).body) (q : not b ≡ false) {s₁ : List ℕ} {a : Parameters} (p : ParametersMeet tree text f s s₁ a) where
+  module _ {b : Bool} (eb : b ≡ is_some (function_of tree text f).body) (q : not b ≡ false) {s₁ : List ℕ} {a : StdResult Scope ConvertError} (p : ParametersMeet tree text f s s₁ a) where
     the_body : (function_of tree text f).body ≡ some (block_at tree text (word_of tree f E))
     the_body = body-there keyed.good at eb q
 
@@ -456,7 +456,7 @@ module _ {tree text l s : List ℕ} {f : ℕ} {k : Counters} (keyed : Keyed tree
     unfolding function_records body_records
     record_count = ap (λ (o : Option Block). 3 + (2 * length (function_of tree text f).params + body_records o)) the_body
 
-    pub function-refused : {x : ConvertError} → a ≡ Parameters.Refused x → ConvertsFunction tree text f k l s (Finished.Refused x) l s₁
+    pub function-refused : {x : ConvertError} → a ≡ Err x → ConvertsFunction tree text f k l s (Finished.Refused x) l s₁
     function-refused {x} d =
         function-stops refl (only-stays (names-only p))
         (λ before pool held. refused_run tree text f pool the_body (not_declared tree text f s s₁ p d))
@@ -470,7 +470,7 @@ module _ {tree text l s : List ℕ} {f : ℕ} {k : Counters} (keyed : Keyed tree
         subst (λ (o : Option Block). Visited tree s (body_visits (records tree) o) k' s₂) (sym the_body)
         (record { turns = (v k' e).turns; visits = omega (arith, visits_stay same, (v k' e).visits) }))
 
-    module _ {sc : Scope} (d : a ≡ Parameters.Done sc) {k₁ : Counters} {l₁ : List ℕ} (v : VarsAdd (function_of tree text f).params k l k₁ l₁) where
+    module _ {sc : Scope} (d : a ≡ Ok sc) {k₁ : Counters} {l₁ : List ℕ} (v : VarsAdd (function_of tree text f).params k l k₁ l₁) where
       abbrev inner : Converter
       inner = record { scope = sc; counters = k₁; operands = 0; turn = 0 }
 

@@ -27,7 +27,7 @@ use Rattle.conversion.specs.Functions.{is_ascii, add_function, find_main, return
 use Rattle.records.specs.declared.words.Found.{Found}
 use Rattle.keys.specs.declared.parts.Part.{Part}
 use Rattle.expressions.specs.declared.answers.Outcome.{Outcome}
-use Rattle.functions.specs.declared.functions.AllFunctions.TheVariants as AllFunctions
+use Rattle.std.specs.Prelude.{Ok, Err}
 use Rattle.syntax.specs.Places.{TypeAt, FunctionAt, function_of}
 use Rattle.keys.specs.Parts.{PartIs}
 use Rattle.keys.specs.Keys.{function_key, keys_below, function_places, Listed, KeySlots, key_entered, function_found}
@@ -261,7 +261,7 @@ module _ (tree text s₀ : List ℕ) (count : ℕ) (good : Good tree text) where
     turn_is : add_function (function_of tree text (get_or (function_places tree) j 0)) (keys_below tree text j) ≡ done_with (keys_below tree text (j + 1)) o
     turn_is = rw (w.listed.listed j inside-list) at e
 
-    pub entered-refused : (t : List ℕ) → ListKeeps tree t s₀ → (x : ConvertError) → o ≡ Outcome.Refused x → AllMeet tree text t s (AllFunctions.Refused x)
+    pub entered-refused : (t : List ℕ) → ListKeeps tree t s₀ → (x : ConvertError) → o ≡ Outcome.Refused x → AllMeet tree text t s (Err x)
     unfolding done_with refusal
     entered-refused t first x q =
         refused (keeps_on first w.keeps) w.listed
@@ -303,7 +303,7 @@ module _ (tree text s₀ : List ℕ) (count : ℕ) (good : Good tree text) where
             };
           }
 
-  pub entered-done : (t : List ℕ) → ListKeeps tree t s₀ → (s : List ℕ) (j : ℕ) → Entered tree text s₀ s count j → count ≤ j → AllMeet tree text t s (AllFunctions.Done count)
+  pub entered-done : (t : List ℕ) → ListKeeps tree t s₀ → (s : List ℕ) (j : ℕ) → Entered tree text s₀ s count j → count ≤ j → AllMeet tree text t s (Ok count)
   entered-done t first s j w h =
       let all : length (function_places tree) ≤ j = omega (arith, w.counted) in
       done (keeps_on first w.keeps) (record {

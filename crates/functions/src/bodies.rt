@@ -15,7 +15,7 @@ ghost use Rattle.statements.specs.Lent.{at, finished_with};
 ghost use Rattle.statements.specs.Turns.{Turns, BlockVisited};
 ghost use Rattle.functions.specs.Bodies.{ParametersAdd, misses_return, FunctionsAfforded, BodyAs, ConvertsFunction, FunctionVisited};
 
-use crate::parameters::{Parameters, declare_parameters};
+use crate::parameters::declare_parameters;
 use crate::returns::always_returns;
 use expressions::arguments::{END, next_cell};
 use ir::lent::{add_function, new_var};
@@ -109,8 +109,8 @@ pub fn convert_func(
         return Finished::Done;
     }
     match declare_parameters(tree, text, scratch, f) {
-        Parameters::Refused(x) => Finished::Refused(x),
-        Parameters::Done(scope) => {
+        Err(x) => Finished::Refused(x),
+        Ok(scope) => {
             parameter_variables(tree, text, arena, k, f);
             let c = Converter {
                 scope,

@@ -21,13 +21,6 @@ use records::numbers::{FORM_INT, KIND_FUNCTION};
 use records::words::{Found, NONE, RECORD_BYTES, WORD_D, kind, put_word, reference};
 use types::form::form;
 
-// How many functions there are.
-#[derive(Clone, Copy)]
-pub enum AllFunctions {
-    Done(usize),
-    Refused(ConvertError),
-}
-
 fn refuse_function(kind: ConvertErrorKind, place: u32) -> Outcome
     ensures { result ≡ Outcome.Refused (record { kind = kind; place = place }) }
 {
@@ -40,15 +33,12 @@ fn list_functions(tree: &[u8], scratch: &mut [u8]) -> usize
     requires tree_in_bounds { scratch_each * records tree.now ≤ length scratch.old }
     ensures { (scratch.new ≡ listed_in tree.now scratch.old) × (result ≡ length (function_places tree.now)) }
 {
-    let n = tree.len() / RECORD_BYTES;
-    let mut r = 0;
     let mut count = 0;
-    while r < n {
+    for r in 0..tree.len() / RECORD_BYTES {
         if kind(tree, r) == KIND_FUNCTION {
             put_word(scratch, LISTED_BYTES * count, r as u32);
             count += 1;
         }
-        r += 1;
     }
     count
 }
@@ -82,24 +72,26 @@ fn check_function(tree: &[u8], text: &[u8], scratch: &[u8], j: usize) -> Outcome
 
 // Lists the functions' records in scratch, enters each by its key and says how many there are, or refuses the first function whose key is taken or whose name has the
 // wrong letters.
-pub fn get_all_functions(tree: &[u8], text: &[u8], scratch: &mut [u8]) -> AllFunctions
+pub fn get_all_functions(
+    tree: &[u8],
+    text: &[u8],
+    scratch: &mut [u8],
+) -> Result<usize, ConvertError>
     requires good { Good tree.now text.now × Numbered tree.now text.now scratch.old }
     requires tree_in_bounds { scratch_each * records tree.now ≤ length scratch.old }
     ensures { AllMeet tree.now text.now scratch.old scratch.new result }
 {
     let count = list_functions(tree, scratch);
     clear_keys(scratch, tree.len() / RECORD_BYTES);
-    let mut j = 0;
-    while j < count {
+    for j in 0..count {
         match check_function(tree, text, scratch, j) {
-            Outcome::Refused(e) => return AllFunctions::Refused(e),
+            Outcome::Refused(e) => return Err(e),
             Outcome::Done => {}
         }
         let added = function_at(tree, scratch, j);
         enter_key(tree, text, scratch, added);
-        j += 1;
     }
-    AllFunctions::Done(count)
+    Ok(count)
 }
 
 // The first function named `main`.
@@ -108,13 +100,11 @@ fn find_main(tree: &[u8], text: &[u8], scratch: &[u8], count: usize) -> Found
     requires listed { Listed tree.now scratch.now × (count ≡ length (function_places tree.now)) }
     ensures { FunctionIs tree.now text.now result (find_main (program tree.now text.now).functions) }
 {
-    let mut j = 0;
-    while j < count {
+    for j in 0..count {
         let f = function_at(tree, scratch, j);
         if is_main(text, name_of(tree, text, f)) {
             return Found::At(f);
         }
-        j += 1;
     }
     Found::Nothing
 }

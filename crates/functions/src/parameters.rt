@@ -16,18 +16,12 @@ use records::convert_error::{ConvertError, ConvertErrorKind};
 use records::words::{NONE, RECORD_BYTES, WORD_A, WORD_C, reference, word};
 use scope::{Declared, Scope};
 
-// The scope with the parameters, or AlreadyDeclared at the one whose name is taken.
-#[derive(Clone, Copy)]
-pub enum Parameters {
-    Done(Scope),
-    Refused(ConvertError),
-}
-
-fn taken(place: usize) -> Parameters
+// AlreadyDeclared at a parameter whose name is taken.
+fn taken(place: usize) -> Result<Scope, ConvertError>
     requires { place < 4294967296 }
-    ensures { result ≡ Parameters.Refused (record { kind = AlreadyDeclared; place = place }) }
+    ensures { result ≡ Err (record { kind = AlreadyDeclared; place = place }) }
 {
-    Parameters::Refused(ConvertError {
+    Err(ConvertError {
         kind: ConvertErrorKind::AlreadyDeclared,
         place: place as u32,
     })
@@ -40,7 +34,7 @@ fn declare_parameter(
     scratch: &mut [u8],
     scope: Scope,
     cell: usize,
-) -> Parameters
+) -> Result<Scope, ConvertError>
     requires ready { Ready tree.now text.now scratch.old scope }
     requires params_at { ParamsAt tree.now cell }
     requires fact { (cell ≡ none → ⊥) × (scope.names + cell < records tree.now) }
@@ -50,13 +44,18 @@ fn declare_parameter(
     let p = reference(tree, cell, WORD_A);
     let v = VarId(scope.names as u32, word(tree, p, WORD_C));
     match declare_name(tree, text, scratch, scope, p, v, false) {
-        Declared::Done(next) => Parameters::Done(next),
+        Declared::Done(next) => Ok(next),
         Declared::Taken => taken(p),
     }
 }
 
-// The scope with which the body of function f begins: its parameters, numbered from 0.
-pub fn declare_parameters(tree: &[u8], text: &[u8], scratch: &mut [u8], f: usize) -> Parameters
+// The scope with which the body of function f begins: its parameters, numbered from 0; or AlreadyDeclared at the first whose name is taken.
+pub fn declare_parameters(
+    tree: &[u8],
+    text: &[u8],
+    scratch: &mut [u8],
+    f: usize,
+) -> Result<Scope, ConvertError>
     requires keyed { Keyed tree.now text.now scratch.old }
     requires function_at { FunctionAt tree.now f }
     ensures parameters_meet { ParametersMeet tree.now text.now f scratch.old scratch.new result }
@@ -70,11 +69,8 @@ pub fn declare_parameters(tree: &[u8], text: &[u8], scratch: &mut [u8], f: usize
         function: f as u32,
     };
     while cell != END {
-        match declare_parameter(tree, text, scratch, scope, cell) {
-            Parameters::Refused(e) => return Parameters::Refused(e),
-            Parameters::Done(next) => scope = next,
-        }
+        scope = declare_parameter(tree, text, scratch, scope, cell)?;
         cell = next_cell(tree, cell);
     }
-    Parameters::Done(scope)
+    Ok(scope)
 }

@@ -8,25 +8,21 @@ use Rattle.statements.specs.Lent.{finished_with}
 use Rattle.functions.proofs.bodies.convert_body.Goals as goal
 
 pub convert_block-requires : goal.convert_block-requires
-convert_block-requires c = let first = c in
-    let good = c.requires.converting.0.ready.keyed.good in
+convert_block-requires c = let good = c.requires.converting.0.ready.keyed.good in
     let at = c.requires.function_at.0 in
     record { converting = (c.requires.converting.0, block_afforded _ _ _ _ c.reference-body.ensures c.requires.converting.1); body_at = body-list good at c.reference-body.ensures; turns = c.requires.turns }
 
 pub misses_return-requires : goal.misses_return-requires
-misses_return-requires c = let first = c in
-    (c.requires.converting.0.ready.keyed.good, c.requires.function_at.0)
+misses_return-requires c = (c.requires.converting.0.ready.keyed.good, c.requires.function_at.0)
 
 pub overflow_cast-result : goal.overflow_cast-result
-overflow_cast-result c = let first = c in
-    omega (arith, function-small c.requires.converting.0.ready.keyed.good c.requires.function_at.0)
+overflow_cast-result c = omega (arith, function-small c.requires.converting.0.ready.keyed.good c.requires.function_at.0)
 
 pub returns-then-misses_return : goal.returns-then-misses_return
 returns-then-misses_return c = record { body_as = body_misses _ c.reference-body.ensures c.convert_block.ensures.block_as (ap (finished_with _) c.in-Done.is) c.misses_return.ensures c.if-misses_return.true; visits = λ k q. refused-finished k q }
 
 pub overflow_cast-f : goal.overflow_cast-f
-overflow_cast-f c = let first = c in
-    omega (arith, function-small c.requires.converting.0.ready.keyed.good c.requires.function_at.0)
+overflow_cast-f c = omega (arith, function-small c.requires.converting.0.ready.keyed.good c.requires.function_at.0)
 
 pub add_function-requires : goal.add_function-requires
 add_function-requires c = entry-room _ c.reference-body.ensures c.convert_block.ensures.block_as (ap (finished_with _) c.in-Done.is) c.misses_return.ensures c.requires.function_at.1
