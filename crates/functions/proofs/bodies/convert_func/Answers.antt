@@ -13,8 +13,8 @@ add_function-requires c = function-room c.requires.keyed.0 c.requires.keyed.1 c.
 pub returns-then-not-has_body : goal.returns-then-not-has_body
 returns-then-not-has_body c = record { converts_function = function-bare c.requires.keyed.0 c.requires.keyed.1 c.requires.room.0 c.requires.room.1 c.requires.room.2 c.has_body.ensures (ap not c.if-not-has_body.true) (omega arith) c.add_function.ensures; visits = bare-visited c.requires.keyed.0 c.requires.keyed.1 c.requires.room.0 c.requires.room.1 c.requires.room.2 c.requires.turns c.has_body.ensures (ap not c.if-not-has_body.true) c.add_function.ensures }
 
-pub parameter_variables-requires : goal.parameter_variables-requires
-parameter_variables-requires c = record { good = (c.requires.keyed.0.good, c.requires.keyed.1); room_for = vars-room c.requires.keyed.0 c.requires.keyed.1 c.requires.room.0 c.requires.room.1 c.requires.room.2 }
+pub parameter_variables-requires-clause-room_for : goal.parameter_variables-requires-clause-room_for
+parameter_variables-requires-clause-room_for c = vars-room c.requires.keyed.0 c.requires.keyed.1 c.requires.room.0 c.requires.room.1 c.requires.room.2
 
 pub convert_body-requires : goal.convert_body-requires
 convert_body-requires c = let made = body_needs c.requires.keyed.0 c.requires.keyed.1 c.requires.room.0 c.requires.room.1 c.requires.room.2 c.has_body.ensures (ap not c.if-not-has_body.false) c.declare_parameters.ensures.parameters_meet c.in-Ok.is c.parameter_variables.ensures c.declare_parameters.ensures.turns c.requires.turns in record { converting = made.0; function_at = made.1.0; turns = made.1.1 }

@@ -7,9 +7,6 @@ pub returns-then-is_ascii : goal.returns-then-is_ascii
 returns-then-is_ascii c = is_latin _ _ _ _ _ c.requires.good.0 c.requires.listed c.requires.j_in_bounds.0 c.function_at-f.ensures _ _ _ c.is_mangled.ensures c.name_of-name.ensures c.is_ascii.ensures
     c.if-is_mangled.true c.if-is_ascii.true _ c.refuse_function.ensures
 
-pub find_own_key-requires : goal.find_own_key-requires
-find_own_key-requires c = record { good = (c.requires.good.0, c.requires.good.1, c.requires.listed.room); function_at = c.function_at-f.ensures.1 }
-
 pub returns-in-At : goal.returns-in-At
 returns-in-At c = signature_taken _ _ _ _ _ c.requires.good.0 c.requires.listed c.requires.j_in_bounds.0 c.function_at-f.ensures _ _ _ c.is_mangled.ensures c.name_of-name.ensures c.is_ascii.ensures
     _ (c.find_own_key.ensures _ c.requires.j_in_bounds.1).is c.if-is_mangled.true c.if-is_ascii.false _ c.in-At.is _ c.refuse_function-in-At.ensures
@@ -21,9 +18,6 @@ returns-then-is_mangled c = signature_new _ _ _ _ _ c.requires.good.0 c.requires
 pub returns-then-not-is_ascii : goal.returns-then-not-is_ascii
 returns-then-not-is_ascii c = is_foreign _ _ _ _ _ c.requires.good.0 c.requires.listed c.requires.j_in_bounds.0 c.function_at-f.ensures _ _ _ c.is_mangled.ensures c.name_of-name.ensures c.is_ascii-2.ensures
     c.if-is_mangled.false c.if-not-is_ascii.true _ c.refuse_function-then-not-is_ascii.ensures
-
-pub find_own_key-requires-2 : goal.find_own_key-requires-2
-find_own_key-requires-2 c = record { good = (c.requires.good.0, c.requires.good.1, c.requires.listed.room); function_at = c.function_at-f.ensures.1 }
 
 pub returns-in-At-find_own_key : goal.returns-in-At-find_own_key
 returns-in-At-find_own_key c = symbol_taken _ _ _ _ _ c.requires.good.0 c.requires.listed c.requires.j_in_bounds.0 c.function_at-f.ensures _ _ _ c.is_mangled.ensures c.name_of-name.ensures c.is_ascii-2.ensures

@@ -9,15 +9,6 @@ use Rattle.functions.proofs.functions.find_main.Goals as goal
 pub loop-j-init : goal.loop-j-init
 loop-j-init c = main_start _ _
 
-pub function_at-f-requires : goal.function_at-f-requires
-function_at-f-requires c = record { listed = c.requires.listed.0; j_in_bounds = omega (arith, c.loop-j-test.true, c.requires.listed.1) }
-
-pub name_of-requires : goal.name_of-requires
-name_of-requires c = record { good = c.requires.good; function_at = c.function_at-f.ensures.1 }
-
-pub is_main-requires : goal.is_main-requires
-is_main-requires c = c.name_of.ensures.inside
-
 pub returns-then-is_main : goal.returns-then-is_main
 returns-then-is_main c = record {
   is = main_here _ _ _ _ c.requires.listed.0 (omega (arith, c.loop-j-test.true, c.requires.listed.1)) _ c.function_at-f.ensures _ _ c.name_of.ensures c.is_main.ensures

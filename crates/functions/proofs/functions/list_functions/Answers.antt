@@ -16,8 +16,5 @@ loop-r-preserved c = elim c.if-kind-eq-KIND_FUNCTION.branch [
       (listing_skip _ _ _ _ _ _ c.loop-r.invariant c.loop-r-test.true (λ e. w.if-kind-eq-KIND_FUNCTION.false (c.kind.ensures ∙ e)))
 ]
 
-pub shape_of-scratch : goal.shape_of-scratch
-shape_of-scratch c = c.loop-r.invariant.same
-
 pub returns : goal.returns
 returns c = listing_end _ _ _ _ _ _ c.loop-r.invariant c.loop-r-test.false
