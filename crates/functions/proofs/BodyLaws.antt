@@ -104,9 +104,6 @@ module _ {tree text : List ℕ} (good : Good tree text) {f : ℕ} (at : Function
   pub body-list : {w : ℕ} → w ≡ word_of tree f E → BodyAt tree w
   body-list e = rw e (body_is tree text good f at)
 
-  pub function-small : f < 4294967296
-  function-small = omega (arith, at.below, good.few)
-
 -- ---- the parameters' variables
 
 vars_run : (l : List Param) (s : State) → new_vars l s ≡ made tt [] (with_types l s)
@@ -185,9 +182,6 @@ module _ {tree text : List ℕ} (good : Good tree text) {f : ℕ} {k₀ k : Coun
 
 -- ---- the body
 
-pub block_afforded : (tree text : List ℕ) {c : Converter} (f w : ℕ) → w ≡ word_of tree f E → BlockAfforded tree text c (word_of tree f E) → BlockAfforded tree text c w
-block_afforded tree text {c} f w e h = subst (λ (x : ℕ). BlockAfforded tree text c x) (sym e) h
-
 module _ {tree text l l' s s' : List ℕ} {m : M (Unit {0})} {f : ℕ} {c : Converter} (long : length l' ≡ length l) (stays : StaysFor tree c s s') where
   body-gives : {k : Counters} → BodyDone tree text m f c.counters l k l' → ConvertsBody tree text m f c l s (Finished.Done k) l' s'
   body-gives {k} p = record {
@@ -248,9 +242,6 @@ module _ {tree text l l₁ s s₁ : List ℕ} {c : Converter} (f : ℕ) {w : ℕ
         subst (λ (m : M (Unit {0})). NextIn (texts_of tree text) m c.counters l tt k l₁) body_split
         (then_in (texts_of tree text) (behind tree text f) (finished-next block_as q).next
         (subst (λ (m : M (Unit {0})). NextIn (texts_of tree text) m k l₁ tt k l₁) (sym (behind-is false e)) (next_in (texts_of tree text) (pure-next tt k l₁ (finished-next block_as q).next.room))))
-
-    pub entry-room : c.counters.functions < c.counters.records → Room k l₁ × (k.functions < k.records)
-    entry-room h = let p = finished-next block_as q in (p.next.room, omega (arith, h, p.spent.functions, p.spent.records))
 
     pub body-done : {k' : Counters} {l₂ : List ℕ} → b ≡ false → length l₂ ≡ length l₁ → Closes f true k l₁ k' l₂ → BodyAs c f tree text l s (Finished.Done k') l₂ s₁
     body-done {k'} {l₂} e h p =
