@@ -182,8 +182,7 @@ fn fit_args(
     let n = tree.len() / RECORD_BYTES;
     let mut argument = reference(tree, e, WORD_C);
     let mut parameter = parameters_of(tree, text, f);
-    let mut j = 0;
-    while j < count {
+    for j in 0..count {
         let at = first_value(tree, text, argument, parameter);
         let o = operand_at(scratch, n, first + j);
         let expected = parameter_type(tree, text, at.parameter);
@@ -191,7 +190,6 @@ fn fit_args(
         push_operand(scratch, n, first + j, fitted);
         argument = at.rest;
         parameter = next_parameter(tree, text, at.parameter);
-        j += 1;
     }
 }
 
@@ -210,11 +208,9 @@ fn emit_args(
 {
     let first = c.operands;
     let n = tree.len() / RECORD_BYTES;
-    let mut j = 0;
-    while j < count {
+    for j in 0..count {
         let o = operand_at(scratch, n, first + j);
         emit_arg(arena, k, o);
-        j += 1;
     }
 }
 
