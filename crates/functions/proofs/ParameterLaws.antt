@@ -25,10 +25,10 @@ use Rattle.conversion.specs.Scope.{Variable, find_variable, with_variable}
 use Rattle.conversion.specs.Written.{bool_number}
 use Rattle.ir.specs.declared.structs.VarId.{VarId}
 use Rattle.scope.specs.declared.Scope.{Scope}
-use Rattle.scope.specs.declared.Declared.{Declared}
 use Rattle.scope.specs.Open.{variables_at, loop_number, scope_at, variable_named, NameAfforded, Added, Taken, DeclareMeets}
 use Rattle.scope.proofs.ScopeLaws.{scope-more}
-use Rattle.std.specs.Prelude.{Result, Ok, Err}
+use Rattle.std.specs.Prelude.{Option, Some, None, Ok, Err, ok_or}
+use Rattle.expressions.specs.Answers.{Answer}
 use Rattle.syntax.specs.Places.{TypeAt, ParamsAt, function_of, params_at}
 use Rattle.texts.specs.Texts.{has_text}
 use Rattle.keys.specs.Keys.{Keyed}
@@ -69,15 +69,15 @@ only-stays p = record {
   told = λ j h. absurd (omega (arith, h));
 }
 
-pub names-only : {tree text s s' : List ℕ} {f : ℕ} {a : Result Scope ConvertError} → ParametersMeet tree text f s s' a → NamesOnly tree s s'
+pub names-only : {tree text s s' : List ℕ} {f : ℕ} {a : Answer Scope} → ParametersMeet tree text f s s' a → NamesOnly tree s s'
 names-only (ParametersMeet.done asked ready inner function only bytes) = only
 names-only (ParametersMeet.refused asked only bytes) = only
 
-one_only : {tree text s s' : List ℕ} {sc : Scope} {p : Param} {a : Result Scope ConvertError} → OneMore tree text sc p s s' a → NamesOnly tree s s'
+one_only : {tree text s s' : List ℕ} {sc : Scope} {p : Param} {a : Answer Scope} → OneMore tree text sc p s s' a → NamesOnly tree s s'
 one_only (OneMore.done r is free adds only wrote) = only
 one_only {tree = tree} {s = s} (OneMore.refused e is same) = subst (NamesOnly tree s) (sym same) (only_refl tree s)
 
-pub one_more-turns : {tree text s s' : List ℕ} {sc : Scope} {p : Param} {a : Result Scope ConvertError} → OneMore tree text sc p s s' a → TurnsStay tree s s'
+pub one_more-turns : {tree text s s' : List ℕ} {sc : Scope} {p : Param} {a : Answer Scope} → OneMore tree text sc p s s' a → TurnsStay tree s s'
 one_more-turns m = only-turns (one_only m)
 
 -- one more behind the others
@@ -184,22 +184,16 @@ module _ (tree text s : List ℕ) (sc : Scope) (ready : Ready tree text s sc) (c
       pub met_room : NameAfforded sc v
       met_room = is_afforded v e₀ type_of-item
 
-      module _ (s' : List ℕ) (r : Declared) (m : DeclareMeets text (original_of tree s p) (original_word tree s p A) (original_word tree s p B) v false sc s s' r) where
-        met_as : (x : Declared) → r ≡ x → DeclareMeets text (original_of tree s item) (original_word tree s item A) (original_word tree s item B) v false sc s s' x
-        met_as x q =
-            subst (λ (i : ℕ). DeclareMeets text (original_of tree s i) (original_word tree s i A) (original_word tree s i B) v false sc s s' x) ep
-            (subst (DeclareMeets text (original_of tree s p) (original_word tree s p A) (original_word tree s p B) v false sc s s') q m)
+      module _ (s' : List ℕ) where
+        met_as : (r : Option Scope) → DeclareMeets text (original_of tree s p) (original_word tree s p A) (original_word tree s p B) v false sc s s' r
+            → DeclareMeets text (original_of tree s item) (original_word tree s item A) (original_word tree s item B) v false sc s s' r
+        met_as r m = subst (λ (i : ℕ). DeclareMeets text (original_of tree s i) (original_word tree s i A) (original_word tree s i B) v false sc s s' r) ep m
 
-        pub met_done : (sc' : Scope) → r ≡ Declared.Done sc' → OneMore tree text sc parameter s s' (Ok sc')
+        pub met : (r : Option Scope) → DeclareMeets text (original_of tree s p) (original_word tree s p A) (original_word tree s p B) v false sc s s' r
+            → OneMore tree text sc parameter s s' (ok_or r (record { kind = AlreadyDeclared; place = p }))
         unfolding DeclareMeets
-        met_done sc' q = one_more v e₀ type_of-item s' sc' (met_as (Declared.Done sc') q)
-
-        pub met_taken : r ≡ Declared.Taken → (a : Result Scope ConvertError) → a ≡ Err (record { kind = AlreadyDeclared; place = p })
-            → OneMore tree text sc parameter s s' a
-        unfolding DeclareMeets
-        met_taken q a ea =
-            subst (OneMore tree text sc parameter s s') (sym ea)
-            (name-taken v e₀ type_of-item s' (record { kind = AlreadyDeclared; place = p }) (rw ep refl) (met_as Declared.Taken q))
+        met (Some sc') m = one_more v e₀ type_of-item s' sc' (met_as (Some sc') m)
+        met None m = name-taken v e₀ type_of-item s' (record { kind = AlreadyDeclared; place = p }) (rw ep refl) (met_as None m)
 
 -- ---- the loop
 

@@ -4,7 +4,6 @@ ghost use Rattle.records.specs.Words.{records, none};
 ghost use Rattle.syntax.specs.Places.{FunctionAt, ParamsAt};
 ghost use Rattle.keys.specs.Keys.{Keyed};
 ghost use Rattle.expressions.specs.Slots.{Ready};
-ghost use Rattle.conversion.specs.ConvertError.{AlreadyDeclared};
 ghost use Rattle.functions.specs.Parameters.{parameter_in, OneMore, ParametersMeet};
 ghost use Rattle.statements.specs.Turns.{TurnsStay};
 
@@ -14,20 +13,9 @@ use ir::structs::VarId;
 use keys::keys::parameters_of;
 use records::convert_error::{ConvertError, ConvertErrorKind};
 use records::words::{NONE, RECORD_BYTES, WORD_A, WORD_C, reference, word};
-use scope::{Declared, Scope};
+use scope::Scope;
 
-// AlreadyDeclared at a parameter whose name is taken.
-fn taken(place: usize) -> Result<Scope, ConvertError>
-    requires { place < 4294967296 }
-    ensures { result ≡ Err (record { kind = AlreadyDeclared; place = place }) }
-{
-    Err(ConvertError {
-        kind: ConvertErrorKind::AlreadyDeclared,
-        place: place as u32,
-    })
-}
-
-// The scope with the parameter of one cell more; its variable's number is how many stood before. There is room: each parameter has a record.
+// The scope with the parameter of one cell more, or AlreadyDeclared where its name is taken; its variable's number is how many stood before. There is room: each parameter has a record.
 fn declare_parameter(
     tree: &[u8],
     text: &[u8],
@@ -43,10 +31,10 @@ fn declare_parameter(
 {
     let p = reference(tree, cell, WORD_A);
     let v = VarId(scope.names as u32, word(tree, p, WORD_C));
-    match declare_name(tree, text, scratch, scope, p, v, false) {
-        Declared::Done(next) => Ok(next),
-        Declared::Taken => taken(p),
-    }
+    declare_name(tree, text, scratch, scope, p, v, false).ok_or(ConvertError {
+        kind: ConvertErrorKind::AlreadyDeclared,
+        place: p as u32,
+    })
 }
 
 // The scope with which the body of function f begins: its parameters, numbered from 0; or AlreadyDeclared at the first whose name is taken.

@@ -2,7 +2,7 @@
 -- What `declare_name` owes of the parameter's record; there is always room. Assumes nothing.
 use native.Mathlib.Omega.{arith}
 use mathlib.Core.Path.{refl}
-use Rattle.functions.proofs.ParameterLaws.{place_inside, place-word, place-asked, met_room, met_done, met_taken, one_more-turns}
+use Rattle.functions.proofs.ParameterLaws.{place_inside, place-word, place-asked, met_room, met, one_more-turns}
 use Rattle.functions.proofs.parameters.declare_parameter.Goals as goal
 
 pub word-requires : goal.word-requires
@@ -14,13 +14,10 @@ declare_name-requires c = (
   met_room _ _ _ _ c.requires.ready _ c.requires.params_at c.requires.fact.0 c.requires.fact.1 _ c.reference-p.ensures _ c.word.ensures _ refl refl,
 )
 
-pub taken-requires : goal.taken-requires
-taken-requires c = place-word _ _ _ _ c.requires.ready _ c.requires.params_at c.requires.fact.0 c.requires.fact.1 _ c.reference-p.ensures
+pub overflow_cast-place : goal.overflow_cast-place
+overflow_cast-place c = place-word _ _ _ _ c.requires.ready _ c.requires.params_at c.requires.fact.0 c.requires.fact.1 _ c.reference-p.ensures
 
-pub returns-in-Done : goal.returns-in-Done
-returns-in-Done c = let met = met_done _ _ _ _ c.requires.ready _ c.requires.params_at c.requires.fact.0 c.requires.fact.1 _ c.reference-p.ensures _ c.word.ensures _ refl refl _ _ c.declare_name.ensures _ c.in-Done.is in
-    record { one_more = met; turns = one_more-turns met }
-
-pub returns-in-Taken : goal.returns-in-Taken
-returns-in-Taken c = let met = met_taken _ _ _ _ c.requires.ready _ c.requires.params_at c.requires.fact.0 c.requires.fact.1 _ c.reference-p.ensures _ c.word.ensures _ refl refl _ _ c.declare_name.ensures c.in-Taken.is _ c.taken.ensures in
-    record { one_more = met; turns = one_more-turns met }
+pub returns : goal.returns
+returns c =
+    let answer = met _ _ _ _ c.requires.ready _ c.requires.params_at c.requires.fact.0 c.requires.fact.1 _ c.reference-p.ensures _ c.word.ensures _ refl refl _ _ c.declare_name.ensures in
+    rw c.ok_or.ensures.value (record { one_more = answer; turns = one_more-turns answer })
