@@ -15,7 +15,6 @@ use crate::operands::{operand, push_operand};
 use crate::parts::{
     begin_logic, end_logic, finish_binary, finish_call, finish_unary, join_logic, operand_type,
 };
-use expressions::answers::{ExprType, Resolved};
 use expressions::arguments::{Argument, END, argument_at, next_cell};
 use expressions::expressions::{get_type, resolve_call};
 use ir::structs::Operand;
@@ -45,18 +44,14 @@ pub(crate) fn convert_expr(
     if node <= KIND_SIZE_OF {
         return operand(tree, text, arena, scratch, k, c, e);
     }
-    match get_type(tree, text, scratch, scope, c.turn, e) {
-        ExprType::Refused(x) => Err(x),
-        ExprType::Is(y) => {
-            if node == KIND_UNARY {
-                return convert_unary(tree, text, arena, scratch, k, c, e, y);
-            }
-            if node == KIND_BINARY {
-                return convert_binary(tree, text, arena, scratch, k, c, e, y);
-            }
-            convert_call_value(tree, text, arena, scratch, k, c, e, y)
-        }
+    let y = get_type(tree, text, scratch, scope, c.turn, e)?;
+    if node == KIND_UNARY {
+        return convert_unary(tree, text, arena, scratch, k, c, e, y);
     }
+    if node == KIND_BINARY {
+        return convert_binary(tree, text, arena, scratch, k, c, e, y);
+    }
+    convert_call_value(tree, text, arena, scratch, k, c, e, y)
 }
 
 // The Unary e, of type y.
@@ -101,15 +96,11 @@ fn convert_binary(
     ensures converts_as { ConvertsAs (given binary_steps y) (at c k.old) e tree.now text.now arena.old scratch.old (converted k.new result) arena.new scratch.new }
     ensures types { ConvertsTyped binary_types (at c k.old) e tree.now text.now scratch.old (converted k.new result) scratch.new }
 {
-    match operand_type(tree, text, scratch, c, e, y) {
-        ExprType::Refused(x) => Err(x),
-        ExprType::Is(q) => {
-            if detail(tree, e) <= AND {
-                return convert_logic(tree, text, arena, scratch, k, c, e, y);
-            }
-            convert_other(tree, text, arena, scratch, k, c, e, y, q)
-        }
+    let q = operand_type(tree, text, scratch, c, e, y)?;
+    if detail(tree, e) <= AND {
+        return convert_logic(tree, text, arena, scratch, k, c, e, y);
     }
+    convert_other(tree, text, arena, scratch, k, c, e, y, q)
 }
 
 // The And or Or e: the right side is computed only where the left one does not decide.
@@ -185,10 +176,7 @@ fn convert_call_value(
     ensures types { ConvertsTyped call_types (at c k.old) e tree.now text.now scratch.old (converted k.new result) scratch.new }
 {
     let scope = c.scope;
-    let callee = resolve_call(tree, text, scratch, scope, c.turn, e);
-    if let Resolved::Refused(x) = callee {
-        return Err(x);
-    }
+    let callee = resolve_call(tree, text, scratch, scope, c.turn, e)?;
     let count = convert_args(tree, text, arena, scratch, k, c, e)?;
     finish_call(tree, text, arena, scratch, k, c, e, y, callee, count)
 }

@@ -23,13 +23,12 @@ ghost use Rattle.statements.specs.Turns.{TurnsStay};
 
 use crate::answers::{AtValue, Converter, error_at};
 use crate::operands::{operand_at, push_operand};
-use expressions::answers::Outcome;
 use expressions::arguments::{Argument, END, argument_at, next_cell};
 use ir::floats::float_entry;
 use ir::lent::{float_bits, float_id, new_var};
 use ir::structs::{Operand, VarId, emit_arg, emit_cast};
 use keys::keys::parameters_of;
-use records::convert_error::ConvertErrorKind;
+use records::convert_error::{ConvertError, ConvertErrorKind};
 use records::numbers::{FLOAT_LONG, FORM_FLOAT, FORM_INT};
 use records::words::{RECORD_BYTES, WORD_A, WORD_C, reference};
 use types::fits::{fits, range_error};
@@ -244,15 +243,15 @@ pub(crate) fn check_fits(
     expected: usize,
     kind: ConvertErrorKind,
     place: usize,
-) -> Outcome
+) -> Result<(), ConvertError>
     requires { IsExpr tree.now e × IsType tree.now y × IsType tree.now expected × (e < 4294967296) × (place < 4294967296) }
     ensures { (text : List ℕ) (F : Functions) → check_fits (program tree.now text) F (expr_at tree.now text e) y expected kind place ≡ lift (outcome_of result) }
 {
     if fits(tree, e, y, expected) {
-        return Outcome::Done;
+        return Ok(());
     }
     if range_error(tree, e, y, expected) {
-        return Outcome::Refused(error_at(ConvertErrorKind::LiteralOutOfRange, e));
+        return Err(error_at(ConvertErrorKind::LiteralOutOfRange, e));
     }
-    Outcome::Refused(error_at(kind, place))
+    Err(error_at(kind, place))
 }

@@ -24,7 +24,6 @@ use crate::fits::{check_fits, fit_operand};
 use crate::jumps::{jump, jump_if_not, place_label};
 use crate::numbers::{CONDITION_END, LOOP_CHECK, LOOP_END, LOOP_START, OTHERWISE};
 use crate::statements::{convert_cond, copy_fitted};
-use expressions::answers::{ExprType, Outcome};
 use expressions::expressions::get_type;
 use expressions::names::{declare_name, find_name};
 use ir::lent::new_var;
@@ -32,7 +31,7 @@ use ir::structs::{Operand, VarId, emit_binary};
 use records::convert_error::{ConvertError, ConvertErrorKind};
 use records::numbers::{ADD, BOOL_TYPE, FORM_INT, LT};
 use records::words::{NONE, WORD_A, WORD_B, WORD_C, detail, reference, word};
-use scope::{Declared, Known, Scope};
+use scope::Scope;
 use types::form::{form, is_short, is_unsigned};
 
 // Whether the If r has an otherwise.
@@ -147,13 +146,13 @@ fn for_declared(
 {
     let scope = c.scope;
     let x = new_var(arena, k, word(tree, v, WORD_C));
-    match declare_name(tree, text, scratch, scope, v, x, false) {
-        Declared::Taken => Err(error_at(ConvertErrorKind::AlreadyDeclared, r)),
-        Declared::Done(next) => Ok(ForVariable {
-            var: x,
-            scope: next,
-        }),
-    }
+    let Some(next) = declare_name(tree, text, scratch, scope, v, x, false) else {
+        return Err(error_at(ConvertErrorKind::AlreadyDeclared, r));
+    };
+    Ok(ForVariable {
+        var: x,
+        scope: next,
+    })
 }
 
 // The For r that changes a variable of the blocks around it, named in record v.
@@ -170,15 +169,16 @@ fn for_known(
     ensures { VariableStays for_variable_steps c r tree.now text.now scratch.now result }
 {
     let scope = c.scope;
-    match find_name(tree, text, scratch, scope, v) {
-        Known::Unknown => Err(error_at(ConvertErrorKind::UnknownVariable, r)),
-        Known::Is(x, constant) => {
-            if constant {
-                return Err(error_at(ConvertErrorKind::AssignToConstant, r));
-            }
-            Ok(ForVariable { var: x, scope })
-        }
+    let Some(known) = find_name(tree, text, scratch, scope, v) else {
+        return Err(error_at(ConvertErrorKind::UnknownVariable, r));
+    };
+    if known.constant {
+        return Err(error_at(ConvertErrorKind::AssignToConstant, r));
     }
+    Ok(ForVariable {
+        var: known.var,
+        scope,
+    })
 }
 
 // The variable of the For r.
@@ -212,17 +212,15 @@ fn check_bound(
     c: Converter,
     e: usize,
     y: usize,
-) -> Outcome
+) -> Result<(), ConvertError>
     requires ready { Ready tree.now text.now scratch.old c.scope × IsExpr tree.now e × TypeAt tree.now y }
     requires by_index { (k : List ℕ) → InTurn tree.now text.now scratch.old (at c k) }
     ensures by_index_2 { (k : List ℕ) → Checks tree.now (bound_steps tree.now text.now scratch.old (at c k) e y) scratch.old result scratch.new }
     ensures types { (k : List ℕ) → ChecksTyped bound_types (at c k) e tree.now text.now scratch.old result scratch.new }
 {
     let scope = c.scope;
-    match get_type(tree, text, scratch, scope, c.turn, e) {
-        ExprType::Refused(x) => Outcome::Refused(x),
-        ExprType::Is(q) => check_fits(tree, e, q, y, ConvertErrorKind::NotInteger, e),
-    }
+    let q = get_type(tree, text, scratch, scope, c.turn, e)?;
+    check_fits(tree, e, q, y, ConvertErrorKind::NotInteger, e)
 }
 
 // Both bounds of the For r are looked at before either is converted.
@@ -233,7 +231,7 @@ fn for_bounds(
     c: Converter,
     r: usize,
     y: usize,
-) -> Outcome
+) -> Result<(), ConvertError>
     requires ready { Ready tree.now text.now scratch.old c.scope × IsKind tree.now kind_for r × TypeAt tree.now y }
     requires by_index { (k : List ℕ) → InTurn tree.now text.now scratch.old (at c k) }
     ensures by_index_2 { (k : List ℕ) → Checks tree.now (for_bounds_steps tree.now text.now scratch.old (at c k) r y) scratch.old result scratch.new }
@@ -241,10 +239,8 @@ fn for_bounds(
 {
     let from = reference(tree, r, WORD_B);
     let until = reference(tree, r, WORD_C);
-    match check_bound(tree, text, scratch, c, from, y) {
-        Outcome::Refused(x) => Outcome::Refused(x),
-        Outcome::Done => check_bound(tree, text, scratch, c, until, y),
-    }
+    check_bound(tree, text, scratch, c, from, y)?;
+    check_bound(tree, text, scratch, c, until, y)
 }
 
 // Where the For r counts on: at its start, which the first turn passes by, and then the check.
@@ -339,13 +335,9 @@ fn for_turns(
     if form(tree, y) != FORM_INT {
         return Err(error_at(ConvertErrorKind::NotInteger, r));
     }
-    match for_bounds(tree, text, scratch, c, r, y) {
-        Outcome::Refused(e) => Err(e),
-        Outcome::Done => {
-            for_begin(tree, text, arena, scratch, k, c, r, x)?;
-            for_test(tree, text, arena, scratch, k, c, r, x)
-        }
-    }
+    for_bounds(tree, text, scratch, c, r, y)?;
+    for_begin(tree, text, arena, scratch, k, c, r, x)?;
+    for_test(tree, text, arena, scratch, k, c, r, x)
 }
 
 // The For r before its body, with the scope of the body: a variable that it declares is unknown in its bounds.

@@ -37,7 +37,6 @@ use records::words::{
     FOURTH_WORD, Four, SECOND_WORD, THIRD_WORD, WORD_A, WORD_B, detail, high, kind, load, low,
     mark, put_four, reference, word,
 };
-use scope::Known;
 use texts::original;
 use types::form::two_words;
 use types::size::{Bytes, size};
@@ -161,10 +160,10 @@ fn name_operand(
     ensures { LeafStays c e tree.now text.now scratch.now result }
 {
     let scope = c.scope;
-    match find_name(tree, text, scratch, scope, e) {
-        Known::Is(v, _) => Ok(Operand::Var(v)),
-        Known::Unknown => Err(error_at(ConvertErrorKind::UnknownVariable, e)),
-    }
+    let Some(known) = find_name(tree, text, scratch, scope, e) else {
+        return Err(error_at(ConvertErrorKind::UnknownVariable, e));
+    };
+    Ok(Operand::Var(known.var))
 }
 
 // The operand is tagged signed, though a SizeOf's type is unsigned.

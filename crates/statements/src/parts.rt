@@ -21,7 +21,7 @@ use crate::fits::{fit_operand, pass_args};
 use crate::jumps::{jump, jump_if_not, place_label};
 use crate::numbers::{LOGIC_END, LOGIC_RHS};
 use crate::operands::operand_at;
-use expressions::answers::{Common, ExprType, Resolved};
+use expressions::answers::Callee;
 use expressions::expressions::common_type;
 use ir::lent::{label_id, new_var};
 use ir::structs::{Operand, VarId, emit_binary, emit_call, emit_cast, emit_copy, emit_unary};
@@ -117,7 +117,7 @@ pub(crate) fn operand_type(
     c: Converter,
     e: usize,
     y: usize,
-) -> ExprType
+) -> Result<usize, ConvertError>
     requires ready { Ready tree.now text.now scratch.old c.scope }
     requires kind { IsKind tree.now kind_binary e × TypeAt tree.now y }
     requires by_index { (k : List ℕ) → InTurn tree.now text.now scratch.old (at c k) }
@@ -125,11 +125,7 @@ pub(crate) fn operand_type(
     ensures types { (k : List ℕ) → CommonTyped (at c k) e tree.now text.now scratch.old result scratch.new }
 {
     let scope = c.scope;
-    match common_type(tree, text, scratch, scope, c.turn, e) {
-        Common::Refused(x) => ExprType::Refused(x),
-        Common::Is(q) => ExprType::Is(q),
-        Common::Neither => ExprType::Is(y),
-    }
+    Ok(common_type(tree, text, scratch, scope, c.turn, e)?.unwrap_or(y))
 }
 
 // Any Binary but And and Or, behind its sides: both are fitted to q, then the operator goes into a new variable of type y.
@@ -213,19 +209,18 @@ pub(crate) fn finish_call(
     c: Converter,
     e: usize,
     y: usize,
-    callee: Resolved,
+    callee: Callee,
     count: usize,
 ) -> Result<Operand, ConvertError>
     requires converting { Converting tree.now text.now arena.old scratch.old (at c k.old) × Afforded tree.now (at c k.old) (amount (2 * count + 1) (count + 1) 0 0 count) count 0 }
-    requires kind { IsKind tree.now kind_call e × TypeAt tree.now y × IsCallee tree.now callee × StackIn tree.now scratch.old c.operands count }
-    ensures call_ends_as { CallEndsAs e y callee count (at c k.old) tree.now text.now arena.old scratch.old (converted k.new result) arena.new scratch.new }
+    requires kind { IsKind tree.now kind_call e × TypeAt tree.now y × IsCallee tree.now (Ok callee) × StackIn tree.now scratch.old c.operands count }
+    ensures call_ends_as { CallEndsAs e y (Ok callee) count (at c k.old) tree.now text.now arena.old scratch.old (converted k.new result) arena.new scratch.new }
     ensures turns { TurnsStay tree.now scratch.old scratch.new }
 {
     let dest = new_var(arena, k, y as u32);
     match callee {
-        Resolved::Refused(x) => Err(x),
-        Resolved::Cast(_) => cast_first(tree, text, arena, scratch, k, c, e, dest, count),
-        Resolved::Function(f) => {
+        Callee::Cast(_) => cast_first(tree, text, arena, scratch, k, c, e, dest, count),
+        Callee::Function(f) => {
             call_function(tree, text, arena, scratch, k, c, e, f, dest, count)
         }
     }

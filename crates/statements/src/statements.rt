@@ -23,7 +23,7 @@ use crate::exprs::{convert_args, convert_expr};
 use crate::fits::{check_fits, fit_operand, pass_args};
 use crate::jumps::jump;
 use crate::numbers::{LOOP_END, LOOP_START};
-use expressions::answers::{ExprType, Outcome, Resolved};
+use expressions::answers::Callee;
 use expressions::expressions::{get_type, resolve_call};
 use expressions::names::{declare_name, find_name};
 use ir::floats::float_entry;
@@ -35,7 +35,7 @@ use records::numbers::{
     KIND_CALL, NULL_TYPE,
 };
 use records::words::{NONE, WORD_A, WORD_C, WORD_D, detail, kind, reference, word};
-use scope::{Declared, InLoop, Known, Scope};
+use scope::Scope;
 use types::form::{form, is_short, is_unsigned};
 
 // The operand of the condition e, which must be a Bool.
@@ -55,15 +55,11 @@ pub(crate) fn convert_cond(
     ensures types { ConvertsTyped value_types (at c k.old) e tree.now text.now scratch.old (converted k.new result) scratch.new }
 {
     let scope = c.scope;
-    match get_type(tree, text, scratch, scope, c.turn, e) {
-        ExprType::Refused(x) => Err(x),
-        ExprType::Is(y) => {
-            if y == BOOL_TYPE {
-                return convert_expr(tree, text, arena, scratch, k, c, e);
-            }
-            Err(error_at(ConvertErrorKind::NotBool, e))
-        }
+    let y = get_type(tree, text, scratch, scope, c.turn, e)?;
+    if y == BOOL_TYPE {
+        return convert_expr(tree, text, arena, scratch, k, c, e);
     }
+    Err(error_at(ConvertErrorKind::NotBool, e))
 }
 
 fn zero_float(arena: &mut [u8], k: &mut [usize], v: VarId, short: bool)
@@ -136,13 +132,11 @@ pub(crate) fn convert_declare(
 {
     let scope = c.scope;
     let v = new_var(arena, k, word(tree, r, WORD_C));
-    match declare_name(tree, text, scratch, scope, r, v, false) {
-        Declared::Taken => Err(error_at(ConvertErrorKind::AlreadyDeclared, r)),
-        Declared::Done(next) => {
-            zero_value(tree, arena, k, r, v)?;
-            Ok(next)
-        }
-    }
+    let Some(next) = declare_name(tree, text, scratch, scope, r, v, false) else {
+        return Err(error_at(ConvertErrorKind::AlreadyDeclared, r));
+    };
+    zero_value(tree, arena, k, r, v)?;
+    Ok(next)
 }
 
 // The operand, fitted to the variable's type, is copied into it.
@@ -174,19 +168,11 @@ fn assign_to(
     let scope = c.scope;
     let e = reference(tree, r, WORD_C);
     let src = convert_expr(tree, text, arena, scratch, k, c, e)?;
-    match get_type(tree, text, scratch, scope, c.turn, e) {
-        ExprType::Refused(x) => Err(x),
-        ExprType::Is(y) => {
-            let expected = v.1 as usize;
-            match check_fits(tree, e, y, expected, ConvertErrorKind::WrongAssignType, r) {
-                Outcome::Refused(x) => Err(x),
-                Outcome::Done => {
-                    copy_fitted(tree, arena, k, v, src);
-                    Ok(scope)
-                }
-            }
-        }
-    }
+    let y = get_type(tree, text, scratch, scope, c.turn, e)?;
+    let expected = v.1 as usize;
+    check_fits(tree, e, y, expected, ConvertErrorKind::WrongAssignType, r)?;
+    copy_fitted(tree, arena, k, v, src);
+    Ok(scope)
 }
 
 fn convert_assign(
@@ -243,13 +229,11 @@ fn declare_init(
     let scope = c.scope;
     let constant = detail(tree, r) == 1;
     let v = new_var(arena, k, init_type(y) as u32);
-    match declare_name(tree, text, scratch, scope, r, v, constant) {
-        Declared::Taken => Err(error_at(ConvertErrorKind::AlreadyDeclared, r)),
-        Declared::Done(next) => {
-            emit_copy(arena, k, v, src);
-            Ok(next)
-        }
-    }
+    let Some(next) = declare_name(tree, text, scratch, scope, r, v, constant) else {
+        return Err(error_at(ConvertErrorKind::AlreadyDeclared, r));
+    };
+    emit_copy(arena, k, v, src);
+    Ok(next)
 }
 
 // The Init r of a new name.
@@ -270,13 +254,9 @@ fn init_new(
 {
     let scope = c.scope;
     let e = reference(tree, r, WORD_C);
-    match get_type(tree, text, scratch, scope, c.turn, e) {
-        ExprType::Refused(x) => Err(x),
-        ExprType::Is(y) => {
-            let src = convert_expr(tree, text, arena, scratch, k, c, e)?;
-            declare_init(tree, text, arena, scratch, k, c, r, y, src)
-        }
-    }
+    let y = get_type(tree, text, scratch, scope, c.turn, e)?;
+    let src = convert_expr(tree, text, arena, scratch, k, c, e)?;
+    declare_init(tree, text, arena, scratch, k, c, r, y, src)
 }
 
 // The Init r: a plain one of a known name assigns.
@@ -300,10 +280,18 @@ pub(crate) fn convert_init(
         return init_new(tree, text, arena, scratch, k, c, r);
     }
     match find_name(tree, text, scratch, scope, r) {
-        Known::Is(v, constant) => {
-            convert_assign(tree, text, arena, scratch, k, c, r, v, constant)
-        }
-        Known::Unknown => init_new(tree, text, arena, scratch, k, c, r),
+        Some(known) => convert_assign(
+            tree,
+            text,
+            arena,
+            scratch,
+            k,
+            c,
+            r,
+            known.var,
+            known.constant,
+        ),
+        None => init_new(tree, text, arena, scratch, k, c, r),
     }
 }
 
@@ -327,15 +315,11 @@ fn return_as(
 {
     let scope = c.scope;
     let e = reference(tree, r, WORD_A);
-    match check_fits(tree, e, y, expected, ConvertErrorKind::WrongReturnType, r) {
-        Outcome::Refused(x) => Err(x),
-        Outcome::Done => {
-            let value = convert_expr(tree, text, arena, scratch, k, c, e)?;
-            let fitted = fit_operand(tree, arena, k, value, expected);
-            emit_return(arena, k, fitted);
-            Ok(scope)
-        }
-    }
+    check_fits(tree, e, y, expected, ConvertErrorKind::WrongReturnType, r)?;
+    let value = convert_expr(tree, text, arena, scratch, k, c, e)?;
+    let fitted = fit_operand(tree, arena, k, value, expected);
+    emit_return(arena, k, fitted);
+    Ok(scope)
 }
 
 // The Return r: its type is held against the function's before the value is converted.
@@ -357,15 +341,11 @@ pub(crate) fn convert_return(
     let scope = c.scope;
     let e = reference(tree, r, WORD_A);
     let expected = reference(tree, scope.function as usize, WORD_D);
-    match get_type(tree, text, scratch, scope, c.turn, e) {
-        ExprType::Refused(x) => Err(x),
-        ExprType::Is(y) => {
-            if expected == NONE as usize {
-                return Err(error_at(ConvertErrorKind::ReturnWithoutType, r));
-            }
-            return_as(tree, text, arena, scratch, k, c, r, y, expected)
-        }
+    let y = get_type(tree, text, scratch, scope, c.turn, e)?;
+    if expected == NONE as usize {
+        return Err(error_at(ConvertErrorKind::ReturnWithoutType, r));
     }
+    return_as(tree, text, arena, scratch, k, c, r, y, expected)
 }
 
 // A call of f by the call e, whose result is not used.
@@ -410,10 +390,9 @@ fn call_statement(
     ensures types { StatesTyped own_types (at c k.old) r tree.now text.now scratch.old (stated k.new result) scratch.new }
 {
     let scope = c.scope;
-    match resolve_call(tree, text, scratch, scope, c.turn, e) {
-        Resolved::Refused(x) => Err(x),
-        Resolved::Cast(_) => Err(error_at(ConvertErrorKind::WouldPanic, r)),
-        Resolved::Function(f) => call_only(tree, text, arena, scratch, k, c, e, f),
+    match resolve_call(tree, text, scratch, scope, c.turn, e)? {
+        Callee::Cast(_) => Err(error_at(ConvertErrorKind::WouldPanic, r)),
+        Callee::Function(f) => call_only(tree, text, arena, scratch, k, c, e, f),
     }
 }
 
@@ -438,10 +417,8 @@ pub(crate) fn convert_call(
     if kind(tree, e) == KIND_CALL {
         return call_statement(tree, text, arena, scratch, k, c, r, e);
     }
-    match get_type(tree, text, scratch, scope, c.turn, e) {
-        ExprType::Refused(x) => Err(x),
-        ExprType::Is(_) => Ok(scope),
-    }
+    get_type(tree, text, scratch, scope, c.turn, e)?;
+    Ok(scope)
 }
 
 // The Break r goes to the end of the innermost loop.
@@ -459,13 +436,11 @@ pub(crate) fn convert_break(
     ensures { StatesAs break_steps (at c k.old) r tree.now text.now arena.old scratch.now (stated k.new result) arena.new scratch.now }
 {
     let scope = c.scope;
-    match scope.in_loop() {
-        InLoop::Outside => Err(error_at(ConvertErrorKind::BreakOutOfLoop, r)),
-        InLoop::Of(l) => {
-            jump(arena, k, LOOP_END, l as usize);
-            Ok(scope)
-        }
-    }
+    let Some(l) = scope.in_loop() else {
+        return Err(error_at(ConvertErrorKind::BreakOutOfLoop, r));
+    };
+    jump(arena, k, LOOP_END, l as usize);
+    Ok(scope)
 }
 
 // The Continue r goes to the start of the innermost loop, which for a For is where it counts on.
@@ -483,11 +458,9 @@ pub(crate) fn convert_continue(
     ensures { StatesAs continue_steps (at c k.old) r tree.now text.now arena.old scratch.now (stated k.new result) arena.new scratch.now }
 {
     let scope = c.scope;
-    match scope.in_loop() {
-        InLoop::Outside => Err(error_at(ConvertErrorKind::ContinueOutOfLoop, r)),
-        InLoop::Of(l) => {
-            jump(arena, k, LOOP_START, l as usize);
-            Ok(scope)
-        }
-    }
+    let Some(l) = scope.in_loop() else {
+        return Err(error_at(ConvertErrorKind::ContinueOutOfLoop, r));
+    };
+    jump(arena, k, LOOP_START, l as usize);
+    Ok(scope)
 }

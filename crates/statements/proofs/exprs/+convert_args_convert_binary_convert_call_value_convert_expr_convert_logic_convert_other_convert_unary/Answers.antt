@@ -1,16 +1,11 @@
 -- The functions that convert an expression meet their contracts. Their measures are 4e + 3, 4e + 2 for a Binary, 4e + 1 for what it is made of, and 4e for a call's values: a call goes to a lower record, or down this order.
 -- Each need is a law of ExprLaws or of ArgsLaws; the loop's invariant is `ArgsLeft`, its measure the cell's number. Assumes nothing.
 use Rattle.std.proofs.lemmas.Result.{err_from_is_err_and}
-use mathlib.Core.Logic.{inl, inr}
 use mathlib.Core.List.{List, [], ◌∷◌}
-use types.Run.{OneOf}
-use denote.Enum.Declared.{tag_of}
-use Rattle.records.specs.declared.convert_error.ConvertError.{ConvertError}
-use Rattle.expressions.specs.declared.answers.Resolved.{Resolved}
-use Rattle.expressions.specs.contracts.answers.Resolved.{the_type}
 use Rattle.statements.specs.declared.answers.Converter.{Converter}
 use Rattle.statements.specs.Lent.{at, converted, converted_args}
-use mathlib.Core.Path.{◌≡◌, refl, ap, ◌∙◌}
+use mathlib.Core.Path.{◌≡◌, refl, sym, ap, ◌∙◌, subst}
+use Rattle.expressions.specs.Answers.{callee_of, IsCallee}
 use native.Mathlib.Omega.{arith}
 use Rattle.expressions.proofs.TypingLaws.{is-typed, is-kind, expr-low}
 use Rattle.statements.proofs.AroundLaws.{variable_type_lem, left_side, right_side}
@@ -25,12 +20,6 @@ use Rattle.statements.proofs.exprs.+convert_args_convert_binary_convert_call_val
 -- what is lent and what goes by value, each for its equal
 at_same : {c d : Converter} {k l : List ℕ} → c ≡ d → k ≡ l → at c k ≡ at d l
 at_same {d = d} {k = k} p q = ap (λ (z : Converter). at z k) p ∙ ap (at d) q
-
--- what is not refused is of one of the other forms
-not_refused : (r : Resolved) → ((e : ConvertError) → r ≡ Resolved.Refused e → ⊥) → OneOf (0 ∷ 1 ∷ []) (tag_of the_type r)
-not_refused (Resolved.Function f) h = inl refl
-not_refused (Resolved.Cast y) h = inr refl
-not_refused (Resolved.Refused e) h = absurd (h e refl)
 
 pub convert_args-reference-cell-requires : goal.convert_args-reference-cell-requires
 convert_args-reference-cell-requires t c = record { record_bytes_in_bounds = omega (arith, c.requires.kind.below, c.requires.converting.0.ready.keyed.good.whole); k_bound = omega arith }
@@ -78,37 +67,37 @@ pub convert_binary-detail-requires : goal.convert_binary-detail-requires
 convert_binary-detail-requires t c = omega (arith, c.requires.kind.0.below, c.requires.converting.0.ready.keyed.good.whole)
 
 pub convert_binary-convert_logic-requires : goal.convert_binary-convert_logic-requires
-convert_binary-convert_logic-requires t c = (omega (arith, c.decreases), ((fitted_converting c.requires.converting.0 c.requires.kind.0 ((c.operand_type.ensures.by_index_2 c.args.k.now)), c.requires.converting.1), ((c.requires.kind.0, c.requires.kind.1), common_in-turn c.requires.converting.0 ((c.operand_type.ensures.by_index_2 c.args.k.now)) ((c.operand_type.ensures.types c.args.k.now)) c.in-Is.is)))
+convert_binary-convert_logic-requires t c = (omega (arith, c.decreases), ((fitted_converting c.requires.converting.0 c.requires.kind.0 ((c.operand_type.ensures.by_index_2 c.args.k.now)), c.requires.converting.1), ((c.requires.kind.0, c.requires.kind.1), common_in-turn c.requires.converting.0 ((c.operand_type.ensures.by_index_2 c.args.k.now)) ((c.operand_type.ensures.types c.args.k.now)) c.in_ok-q.was)))
 
 pub convert_binary-returns-then-detail-le-AND : goal.convert_binary-returns-then-detail-le-AND
-convert_binary-returns-then-detail-le-AND t c = record { converts_as = fitted_logic c.requires.converting.0 c.requires.kind.0 ((c.operand_type.ensures.by_index_2 c.args.k.now)) c.in-Is.is c.detail.ensures c.if-detail-le-AND.true c.convert_logic.ensures.converts_as; types = common_types_lem c.requires.converting.0 ((c.operand_type.ensures.by_index_2 c.args.k.now)) ((c.operand_type.ensures.types c.args.k.now)) c.in-Is.is c.convert_logic.ensures.types }
+convert_binary-returns-then-detail-le-AND t c = record { converts_as = fitted_logic c.requires.converting.0 c.requires.kind.0 ((c.operand_type.ensures.by_index_2 c.args.k.now)) c.in_ok-q.was c.detail.ensures c.if-detail-le-AND.true c.convert_logic.ensures.converts_as; types = common_types_lem c.requires.converting.0 ((c.operand_type.ensures.by_index_2 c.args.k.now)) ((c.operand_type.ensures.types c.args.k.now)) c.in_ok-q.was c.convert_logic.ensures.types }
 
 pub convert_binary-convert_other-requires : goal.convert_binary-convert_other-requires
-convert_binary-convert_other-requires t c = (omega (arith, c.decreases), ((fitted_converting c.requires.converting.0 c.requires.kind.0 ((c.operand_type.ensures.by_index_2 c.args.k.now)), c.requires.converting.1), ((c.requires.kind.0, c.requires.kind.1, is-typed _ _ _ ((c.operand_type.ensures.by_index_2 c.args.k.now)).typed c.in-Is.is), common_in-turn c.requires.converting.0 ((c.operand_type.ensures.by_index_2 c.args.k.now)) ((c.operand_type.ensures.types c.args.k.now)) c.in-Is.is)))
+convert_binary-convert_other-requires t c = (omega (arith, c.decreases), ((fitted_converting c.requires.converting.0 c.requires.kind.0 ((c.operand_type.ensures.by_index_2 c.args.k.now)), c.requires.converting.1), ((c.requires.kind.0, c.requires.kind.1, is-typed _ _ _ ((c.operand_type.ensures.by_index_2 c.args.k.now)).typed c.in_ok-q.was), common_in-turn c.requires.converting.0 ((c.operand_type.ensures.by_index_2 c.args.k.now)) ((c.operand_type.ensures.types c.args.k.now)) c.in_ok-q.was)))
 
-pub convert_binary-returns-in-Refused : goal.convert_binary-returns-in-Refused
-convert_binary-returns-in-Refused t c = record { converts_as = fitted-stop c.requires.converting.0 c.requires.kind.0 ((c.operand_type.ensures.by_index_2 c.args.k.now)) c.in-Refused.is; types = refused-types }
+pub convert_binary-returns-in_err-q : goal.convert_binary-returns-in_err-q
+convert_binary-returns-in_err-q t c = let p = err_from_is_err_and c.from_residual.result c.from_residual.ensures.1 in rw (p.1, p.2) (record { converts_as = fitted-stop c.requires.converting.0 c.requires.kind.0 ((c.operand_type.ensures.by_index_2 c.args.k.now)) c.in_err-q.was; types = refused-types })
 
-pub convert_binary-returns-else-detail-le-AND : goal.convert_binary-returns-else-detail-le-AND
-convert_binary-returns-else-detail-le-AND t c = record { converts_as = fitted-other c.requires.converting.0 c.requires.kind.0 ((c.operand_type.ensures.by_index_2 c.args.k.now)) c.in-Is.is c.detail.ensures c.if-detail-le-AND.false c.convert_other.ensures.converts_as; types = common_types_lem c.requires.converting.0 ((c.operand_type.ensures.by_index_2 c.args.k.now)) ((c.operand_type.ensures.types c.args.k.now)) c.in-Is.is c.convert_other.ensures.types }
+pub convert_binary-returns : goal.convert_binary-returns
+convert_binary-returns t c = record { converts_as = fitted-other c.requires.converting.0 c.requires.kind.0 ((c.operand_type.ensures.by_index_2 c.args.k.now)) c.in_ok-q.was c.detail.ensures c.if-detail-le-AND.false c.convert_other.ensures.converts_as; types = common_types_lem c.requires.converting.0 ((c.operand_type.ensures.by_index_2 c.args.k.now)) ((c.operand_type.ensures.types c.args.k.now)) c.in_ok-q.was c.convert_other.ensures.types }
 
-pub convert_call_value-resolve_call-callee-requires : goal.convert_call_value-resolve_call-callee-requires
-convert_call_value-resolve_call-callee-requires t c = record { typing = record { ready = c.requires.converting.0.ready; remembers = c.requires.in_turn }; kind = c.requires.kind.0 }
+pub convert_call_value-resolve_call-requires : goal.convert_call_value-resolve_call-requires
+convert_call_value-resolve_call-requires t c = record { typing = record { ready = c.requires.converting.0.ready; remembers = c.requires.in_turn }; kind = c.requires.kind.0 }
 
-pub convert_call_value-returns-in-Refused : goal.convert_call_value-returns-in-Refused
-convert_call_value-returns-in-Refused t c = record { converts_as = called_stop c.requires.converting.0 c.requires.converting.1 c.requires.kind.0 c.resolve_call-callee.ensures _ c.in-Refused.is; types = refused-types }
+pub convert_call_value-returns-in_err-callee : goal.convert_call_value-returns-in_err-callee
+convert_call_value-returns-in_err-callee t c = let p = err_from_is_err_and c.from_residual.result c.from_residual.ensures.1 in rw (p.1, p.2) (record { converts_as = called_stop c.requires.converting.0 c.requires.converting.1 c.requires.kind.0 c.resolve_call.ensures _ c.in_err-callee.was; types = refused-types })
 
 pub convert_call_value-convert_args-requires : goal.convert_call_value-convert_args-requires
-convert_call_value-convert_args-requires t c = (omega (arith, c.decreases), ((called_converting c.requires.converting.0 c.requires.converting.1 c.requires.kind.0 c.resolve_call-callee.ensures, called_afforded c.requires.converting.0 c.requires.converting.1 c.requires.kind.0 c.resolve_call-callee.ensures), (c.requires.kind.0, called_in_turn c.requires.converting.0 c.resolve_call-callee.ensures (not_refused _ c.in_default.not-Refused))))
+convert_call_value-convert_args-requires t c = (omega (arith, c.decreases), ((called_converting c.requires.converting.0 c.requires.converting.1 c.requires.kind.0 c.resolve_call.ensures, called_afforded c.requires.converting.0 c.requires.converting.1 c.requires.kind.0 c.resolve_call.ensures), (c.requires.kind.0, called_in_turn c.requires.converting.0 c.resolve_call.ensures c.in_ok-callee.was)))
 
 pub convert_call_value-finish_call-requires : goal.convert_call_value-finish_call-requires
-convert_call_value-finish_call-requires t c = record { converting = (finish_converting c.requires.converting.0 c.requires.converting.1 c.requires.kind.0 c.resolve_call-callee.ensures c.convert_args.ensures.call_args_as (ap (converted_args _) c.in_ok-count.was), finish_afforded c.requires.converting.0 c.requires.converting.1 c.requires.kind.0 c.resolve_call-callee.ensures c.convert_args.ensures.call_args_as (ap (converted_args _) c.in_ok-count.was)); kind = (c.requires.kind.0, c.requires.kind.1, c.resolve_call-callee.ensures.callee, (c.convert_args.ensures.call_args_as.operands _ _ (ap (converted_args _) c.in_ok-count.was)).1) }
+convert_call_value-finish_call-requires t c = record { converting = (finish_converting c.requires.converting.0 c.requires.converting.1 c.requires.kind.0 c.resolve_call.ensures c.convert_args.ensures.call_args_as (ap (converted_args _) c.in_ok-count.was), finish_afforded c.requires.converting.0 c.requires.converting.1 c.requires.kind.0 c.resolve_call.ensures c.convert_args.ensures.call_args_as (ap (converted_args _) c.in_ok-count.was)); kind = (c.requires.kind.0, c.requires.kind.1, subst (IsCallee _) c.in_ok-callee.was c.resolve_call.ensures.callee, (c.convert_args.ensures.call_args_as.operands _ _ (ap (converted_args _) c.in_ok-count.was)).1) }
 
 pub convert_call_value-returns-in_err-count : goal.convert_call_value-returns-in_err-count
-convert_call_value-returns-in_err-count t c = let p = err_from_is_err_and c.from_residual.result c.from_residual.ensures.1 in rw (p.1, p.2) (record { converts_as = args-stop c.requires.converting.0 c.requires.converting.1 c.requires.kind.0 c.resolve_call-callee.ensures c.convert_args.ensures.call_args_as _ (not_refused _ c.in_default.not-Refused) (ap (converted_args _) c.in_err-count.was); types = refused-types })
+convert_call_value-returns-in_err-count t c = let p = err_from_is_err_and c.from_residual-in_err-count.result c.from_residual-in_err-count.ensures.1 in rw (p.1, p.2) (record { converts_as = args-stop c.requires.converting.0 c.requires.converting.1 c.requires.kind.0 c.resolve_call.ensures c.convert_args.ensures.call_args_as _ c.in_ok-callee.was (ap (converted_args _) c.in_err-count.was); types = refused-types })
 
 pub convert_call_value-returns : goal.convert_call_value-returns
-convert_call_value-returns t c = record { converts_as = called_next c.requires.converting.0 c.requires.converting.1 c.requires.kind.0 c.resolve_call-callee.ensures c.convert_args.ensures.call_args_as (ap (converted_args _) c.in_ok-count.was) _ (not_refused _ c.in_default.not-Refused) c.finish_call.ensures.call_ends_as; types = called_types c.requires.converting.0 c.resolve_call-callee.ensures (not_refused _ c.in_default.not-Refused) c.convert_args.ensures.types (ap (converted_args _) c.in_ok-count.was) c.finish_call.ensures.turns }
+convert_call_value-returns t c = record { converts_as = called_next c.requires.converting.0 c.requires.converting.1 c.requires.kind.0 c.resolve_call.ensures c.convert_args.ensures.call_args_as (ap (converted_args _) c.in_ok-count.was) _ c.in_ok-callee.was (λ to m. c.finish_call.ensures.call_ends_as to (sym (ap (callee_of _ _) c.in_ok-callee.was) ∙ m)); types = called_types c.requires.converting.0 c.resolve_call.ensures c.in_ok-callee.was c.convert_args.ensures.types (ap (converted_args _) c.in_ok-count.was) c.finish_call.ensures.turns }
 
 pub convert_expr-kind-node-requires : goal.convert_expr-kind-node-requires
 convert_expr-kind-node-requires t c = c.requires.expr.inside
@@ -123,25 +112,25 @@ pub convert_expr-get_type-requires : goal.convert_expr-get_type-requires
 convert_expr-get_type-requires t c = record { typing = record { ready = c.requires.converting.0.ready; remembers = c.requires.in_turn }; expr = c.requires.expr }
 
 pub convert_expr-convert_unary-requires : goal.convert_expr-convert_unary-requires
-convert_expr-convert_unary-requires t c = (omega (arith, c.decreases), ((typed_converting c.requires.converting.0 c.requires.expr c.get_type.ensures, c.requires.converting.1), ((is-kind _ _ c.requires.converting.0.ready.keyed.good _ _ c.requires.expr c.kind-node.ensures 9 c.if-node-eq-KIND_UNARY.true, is-typed _ _ _ c.get_type.ensures.typed c.in-Is.is), typed-in_turn c.requires.converting.0 c.get_type.ensures c.in-Is.is)))
+convert_expr-convert_unary-requires t c = (omega (arith, c.decreases), ((typed_converting c.requires.converting.0 c.requires.expr c.get_type.ensures, c.requires.converting.1), ((is-kind _ _ c.requires.converting.0.ready.keyed.good _ _ c.requires.expr c.kind-node.ensures 9 c.if-node-eq-KIND_UNARY.true, is-typed _ _ _ c.get_type.ensures.typed c.in_ok-y.was), typed-in_turn c.requires.converting.0 c.get_type.ensures c.in_ok-y.was)))
 
 pub convert_expr-returns-then-node-eq-KIND_UNARY : goal.convert_expr-returns-then-node-eq-KIND_UNARY
-convert_expr-returns-then-node-eq-KIND_UNARY t c = record { converts_as = typed-unary c.requires.converting.0 c.requires.expr c.get_type.ensures c.kind-node.ensures c.in-Is.is c.if-node-eq-KIND_UNARY.true c.convert_unary.ensures.converts_as; types = unary_types_lem c.requires.converting.0 c.get_type.ensures c.in-Is.is c.requires.expr c.kind-node.ensures c.if-node-eq-KIND_UNARY.true c.convert_unary.ensures.types }
+convert_expr-returns-then-node-eq-KIND_UNARY t c = record { converts_as = typed-unary c.requires.converting.0 c.requires.expr c.get_type.ensures c.kind-node.ensures c.in_ok-y.was c.if-node-eq-KIND_UNARY.true c.convert_unary.ensures.converts_as; types = unary_types_lem c.requires.converting.0 c.get_type.ensures c.in_ok-y.was c.requires.expr c.kind-node.ensures c.if-node-eq-KIND_UNARY.true c.convert_unary.ensures.types }
 
 pub convert_expr-convert_binary-requires : goal.convert_expr-convert_binary-requires
-convert_expr-convert_binary-requires t c = (omega (arith, c.decreases), ((typed_converting c.requires.converting.0 c.requires.expr c.get_type.ensures, c.requires.converting.1), ((is-kind _ _ c.requires.converting.0.ready.keyed.good _ _ c.requires.expr c.kind-node.ensures 10 c.if-node-eq-KIND_BINARY.true, is-typed _ _ _ c.get_type.ensures.typed c.in-Is.is), typed-in_turn c.requires.converting.0 c.get_type.ensures c.in-Is.is)))
+convert_expr-convert_binary-requires t c = (omega (arith, c.decreases), ((typed_converting c.requires.converting.0 c.requires.expr c.get_type.ensures, c.requires.converting.1), ((is-kind _ _ c.requires.converting.0.ready.keyed.good _ _ c.requires.expr c.kind-node.ensures 10 c.if-node-eq-KIND_BINARY.true, is-typed _ _ _ c.get_type.ensures.typed c.in_ok-y.was), typed-in_turn c.requires.converting.0 c.get_type.ensures c.in_ok-y.was)))
 
 pub convert_expr-returns-then-node-eq-KIND_BINARY : goal.convert_expr-returns-then-node-eq-KIND_BINARY
-convert_expr-returns-then-node-eq-KIND_BINARY t c = record { converts_as = typed-binary c.requires.converting.0 c.requires.expr c.get_type.ensures c.kind-node.ensures c.in-Is.is c.if-node-eq-KIND_BINARY.true c.convert_binary.ensures.converts_as; types = binary_types_lem c.requires.converting.0 c.get_type.ensures c.in-Is.is c.requires.expr c.kind-node.ensures c.if-node-eq-KIND_BINARY.true c.convert_binary.ensures.types }
+convert_expr-returns-then-node-eq-KIND_BINARY t c = record { converts_as = typed-binary c.requires.converting.0 c.requires.expr c.get_type.ensures c.kind-node.ensures c.in_ok-y.was c.if-node-eq-KIND_BINARY.true c.convert_binary.ensures.converts_as; types = binary_types_lem c.requires.converting.0 c.get_type.ensures c.in_ok-y.was c.requires.expr c.kind-node.ensures c.if-node-eq-KIND_BINARY.true c.convert_binary.ensures.types }
 
 pub convert_expr-convert_call_value-requires : goal.convert_expr-convert_call_value-requires
-convert_expr-convert_call_value-requires t c = (omega (arith, c.decreases), ((typed_converting c.requires.converting.0 c.requires.expr c.get_type.ensures, c.requires.converting.1), ((record { below = expr-low _ _ c.requires.converting.0.ready.keyed.good _ c.requires.expr; kind = call-kind c.requires.expr c.kind-node.ensures c.if-node-le-KIND_SIZE_OF.false c.if-node-eq-KIND_UNARY.false c.if-node-eq-KIND_BINARY.false }, is-typed _ _ _ c.get_type.ensures.typed c.in-Is.is), typed-in_turn c.requires.converting.0 c.get_type.ensures c.in-Is.is)))
+convert_expr-convert_call_value-requires t c = (omega (arith, c.decreases), ((typed_converting c.requires.converting.0 c.requires.expr c.get_type.ensures, c.requires.converting.1), ((record { below = expr-low _ _ c.requires.converting.0.ready.keyed.good _ c.requires.expr; kind = call-kind c.requires.expr c.kind-node.ensures c.if-node-le-KIND_SIZE_OF.false c.if-node-eq-KIND_UNARY.false c.if-node-eq-KIND_BINARY.false }, is-typed _ _ _ c.get_type.ensures.typed c.in_ok-y.was), typed-in_turn c.requires.converting.0 c.get_type.ensures c.in_ok-y.was)))
 
-pub convert_expr-returns-in-Refused : goal.convert_expr-returns-in-Refused
-convert_expr-returns-in-Refused t c = record { converts_as = typed-stop c.requires.converting.0 c.requires.expr c.get_type.ensures c.kind-node.ensures c.if-node-le-KIND_SIZE_OF.false c.in-Refused.is; types = refused-types }
+pub convert_expr-returns-in_err-y : goal.convert_expr-returns-in_err-y
+convert_expr-returns-in_err-y t c = let p = err_from_is_err_and c.from_residual.result c.from_residual.ensures.1 in rw (p.1, p.2) (record { converts_as = typed-stop c.requires.converting.0 c.requires.expr c.get_type.ensures c.kind-node.ensures c.if-node-le-KIND_SIZE_OF.false c.in_err-y.was; types = refused-types })
 
-pub convert_expr-returns-else-node-eq-KIND_BINARY : goal.convert_expr-returns-else-node-eq-KIND_BINARY
-convert_expr-returns-else-node-eq-KIND_BINARY t c = record { converts_as = typed_call c.requires.converting.0 c.requires.expr c.get_type.ensures c.kind-node.ensures c.in-Is.is (call-kind c.requires.expr c.kind-node.ensures c.if-node-le-KIND_SIZE_OF.false c.if-node-eq-KIND_UNARY.false c.if-node-eq-KIND_BINARY.false) c.convert_call_value.ensures.converts_as; types = call_types_lem c.requires.converting.0 c.get_type.ensures c.in-Is.is c.requires.expr c.kind-node.ensures (call-kind c.requires.expr c.kind-node.ensures c.if-node-le-KIND_SIZE_OF.false c.if-node-eq-KIND_UNARY.false c.if-node-eq-KIND_BINARY.false) c.convert_call_value.ensures.types }
+pub convert_expr-returns : goal.convert_expr-returns
+convert_expr-returns t c = record { converts_as = typed_call c.requires.converting.0 c.requires.expr c.get_type.ensures c.kind-node.ensures c.in_ok-y.was (call-kind c.requires.expr c.kind-node.ensures c.if-node-le-KIND_SIZE_OF.false c.if-node-eq-KIND_UNARY.false c.if-node-eq-KIND_BINARY.false) c.convert_call_value.ensures.converts_as; types = call_types_lem c.requires.converting.0 c.get_type.ensures c.in_ok-y.was c.requires.expr c.kind-node.ensures (call-kind c.requires.expr c.kind-node.ensures c.if-node-le-KIND_SIZE_OF.false c.if-node-eq-KIND_UNARY.false c.if-node-eq-KIND_BINARY.false) c.convert_call_value.ensures.types }
 
 pub convert_logic-reference-left-requires : goal.convert_logic-reference-left-requires
 convert_logic-reference-left-requires t c = record { record_bytes_in_bounds = omega (arith, c.requires.kind.0.below, c.requires.converting.0.ready.keyed.good.whole); k_bound = omega arith }

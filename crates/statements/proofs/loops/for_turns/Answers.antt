@@ -17,16 +17,16 @@ pub for_bounds-requires : goal.for_bounds-requires
 for_bounds-requires c = record { ready = (c.requires.converting.0.ready, c.requires.kind.0, c.requires.kind.1); by_index = λ k. c.requires.in_turn }
 
 pub for_begin-requires : goal.for_begin-requires
-for_begin-requires c = record { converting = (checks_converting c.requires.converting.0 (c.for_bounds.ensures.by_index_2 c.args.k.now), omega (arith, c.requires.converting.1)); kind = c.requires.kind; in_turn = checked_in_turn (at c.args.c c.args.k.now) c.requires.converting.0.ready.scoped (c.for_bounds.ensures.by_index_2 c.args.k.now) (c.for_bounds.ensures.types c.args.k.now) c.in-Done.is }
+for_begin-requires c = record { converting = (checks_converting c.requires.converting.0 (c.for_bounds.ensures.by_index_2 c.args.k.now), omega (arith, c.requires.converting.1)); kind = c.requires.kind; in_turn = checked_in_turn (at c.args.c c.args.k.now) c.requires.converting.0.ready.scoped (c.for_bounds.ensures.by_index_2 c.args.k.now) (c.for_bounds.ensures.types c.args.k.now) c.in_ok-for_bounds.was }
 
 pub for_test-requires : goal.for_test-requires
-for_test-requires c = record { converting = (finished_converting c.for_begin.ensures.bound_as.0 (ap (finished_with _) c.in_ok-for_begin-in-Done.was) (checks_converting c.requires.converting.0 (c.for_bounds.ensures.by_index_2 c.args.k.now)), omega (arith, c.requires.converting.1, (finished-next c.for_begin.ensures.bound_as.0 (ap (finished_with _) c.in_ok-for_begin-in-Done.was)).spent)); kind = c.requires.kind; in_turn = test-in_turn _ c.requires.converting.0 (c.for_bounds.ensures.by_index_2 c.args.k.now) c.for_begin.ensures.bound_as.0 c.for_begin.ensures.types (ap (finished_with _) c.in_ok-for_begin-in-Done.was) }
+for_test-requires c = record { converting = (finished_converting c.for_begin.ensures.bound_as.0 (ap (finished_with _) c.in_ok-for_begin.was) (checks_converting c.requires.converting.0 (c.for_bounds.ensures.by_index_2 c.args.k.now)), omega (arith, c.requires.converting.1, (finished-next c.for_begin.ensures.bound_as.0 (ap (finished_with _) c.in_ok-for_begin.was)).spent)); kind = c.requires.kind; in_turn = test-in_turn _ c.requires.converting.0 (c.for_bounds.ensures.by_index_2 c.args.k.now) c.for_begin.ensures.bound_as.0 c.for_begin.ensures.types (ap (finished_with _) c.in_ok-for_begin.was) }
 
-pub returns-in-Refused : goal.returns-in-Refused
-returns-in-Refused c = record { turns_as = (turns_bounds_not _ _ c.requires.converting.0 c.form.ensures c.if-form-ne-FORM_INT.false (c.for_bounds.ensures.by_index_2 c.args.k.now) c.in-Refused.is, frame-names (c.for_bounds.ensures.by_index_2 c.args.k.now).frame); types = refused-finished }
+pub returns-in_err-for_bounds : goal.returns-in_err-for_bounds
+returns-in_err-for_bounds c = let p = err_from_is_err_and c.from_residual.result c.from_residual.ensures.1 in rw (p.1, p.2) (record { turns_as = (turns_bounds_not _ _ c.requires.converting.0 c.form.ensures c.if-form-ne-FORM_INT.false (c.for_bounds.ensures.by_index_2 c.args.k.now) c.in_err-for_bounds.was, frame-names (c.for_bounds.ensures.by_index_2 c.args.k.now).frame); types = refused-finished })
 
-pub returns-in_err-for_begin-in-Done : goal.returns-in_err-for_begin-in-Done
-returns-in_err-for_begin-in-Done c = let p = err_from_is_err_and c.from_residual.result c.from_residual.ensures.1 in rw (p.1, p.2) (record { turns_as = (turns_begin_not _ _ c.requires.converting.0 c.form.ensures c.if-form-ne-FORM_INT.false (c.for_bounds.ensures.by_index_2 c.args.k.now) c.in-Done.is c.for_begin.ensures.bound_as.0 (ap (finished_with _) c.in_err-for_begin-in-Done.was), names_then (frame-names (c.for_bounds.ensures.by_index_2 c.args.k.now).frame) c.for_begin.ensures.bound_as.1); types = refused-finished })
+pub returns-in_err-for_begin : goal.returns-in_err-for_begin
+returns-in_err-for_begin c = let p = err_from_is_err_and c.from_residual-in_err-for_begin.result c.from_residual-in_err-for_begin.ensures.1 in rw (p.1, p.2) (record { turns_as = (turns_begin_not _ _ c.requires.converting.0 c.form.ensures c.if-form-ne-FORM_INT.false (c.for_bounds.ensures.by_index_2 c.args.k.now) c.in_ok-for_bounds.was c.for_begin.ensures.bound_as.0 (ap (finished_with _) c.in_err-for_begin.was), names_then (frame-names (c.for_bounds.ensures.by_index_2 c.args.k.now).frame) c.for_begin.ensures.bound_as.1); types = refused-finished })
 
-pub returns-in_ok-for_begin-in-Done : goal.returns-in_ok-for_begin-in-Done
-returns-in_ok-for_begin-in-Done c = record { turns_as = (finishes_most (omega arith) (turns_then _ _ c.requires.converting.0 c.form.ensures c.if-form-ne-FORM_INT.false (c.for_bounds.ensures.by_index_2 c.args.k.now) c.in-Done.is c.for_begin.ensures.bound_as.0 (ap (finished_with _) c.in_ok-for_begin-in-Done.was) c.for_test.ensures.bound_as.0), names_then (names_then (frame-names (c.for_bounds.ensures.by_index_2 c.args.k.now).frame) c.for_begin.ensures.bound_as.1) c.for_test.ensures.bound_as.1); types = turns-typed _ c.requires.converting.0 (c.for_bounds.ensures.by_index_2 c.args.k.now) c.for_begin.ensures.bound_as.0 c.for_begin.ensures.types (ap (finished_with _) c.in_ok-for_begin-in-Done.was) (c.for_bounds.ensures.types c.args.k.now) c.in-Done.is c.for_test.ensures.types }
+pub returns : goal.returns
+returns c = record { turns_as = (finishes_most (omega arith) (turns_then _ _ c.requires.converting.0 c.form.ensures c.if-form-ne-FORM_INT.false (c.for_bounds.ensures.by_index_2 c.args.k.now) c.in_ok-for_bounds.was c.for_begin.ensures.bound_as.0 (ap (finished_with _) c.in_ok-for_begin.was) c.for_test.ensures.bound_as.0), names_then (names_then (frame-names (c.for_bounds.ensures.by_index_2 c.args.k.now).frame) c.for_begin.ensures.bound_as.1) c.for_test.ensures.bound_as.1); types = turns-typed _ c.requires.converting.0 (c.for_bounds.ensures.by_index_2 c.args.k.now) c.for_begin.ensures.bound_as.0 c.for_begin.ensures.types (ap (finished_with _) c.in_ok-for_begin.was) (c.for_bounds.ensures.types c.args.k.now) c.in_ok-for_bounds.was c.for_test.ensures.types }

@@ -14,16 +14,16 @@ pub get_type-requires : goal.get_type-requires
 get_type-requires c = record { typing = typing_in c.requires.converting.0 c.requires.in_turn; expr = value-expr c.requires.converting.0.ready.keyed.good c.requires.kind c.reference-e.ensures }
 
 pub convert_expr-requires : goal.convert_expr-requires
-convert_expr-requires c = record { converting = (type_converting c.requires.converting.0 c.get_type.ensures, value_afforded c.requires.converting.0.ready.keyed.good c.requires.kind c.reference-e.ensures c.requires.converting.1); expr = value-expr c.requires.converting.0.ready.keyed.good c.requires.kind c.reference-e.ensures; in_turn = typed-in_turn c.requires.converting.0 c.get_type.ensures c.in-Is.is }
+convert_expr-requires c = record { converting = (type_converting c.requires.converting.0 c.get_type.ensures, value_afforded c.requires.converting.0.ready.keyed.good c.requires.kind c.reference-e.ensures c.requires.converting.1); expr = value-expr c.requires.converting.0.ready.keyed.good c.requires.kind c.reference-e.ensures; in_turn = typed-in_turn c.requires.converting.0 c.get_type.ensures c.in_ok-y.was }
 
 pub declare_init-requires : goal.declare_init-requires
-declare_init-requires c = record { converting = (new_converting c.requires.converting.0 c.requires.converting.1 c.requires.kind c.reference-e.ensures c.get_type.ensures c.in-Is.is c.convert_expr.ensures.converts_as (ap (converted _) c.in_ok-src-in-Is.was), new_afforded c.requires.converting.0 c.requires.converting.1 c.requires.kind c.reference-e.ensures c.get_type.ensures c.in-Is.is c.convert_expr.ensures.converts_as (ap (converted _) c.in_ok-src-in-Is.was)); kind = (c.requires.kind, new-typed c.requires.converting.0 c.requires.converting.1 c.requires.kind c.reference-e.ensures c.get_type.ensures c.in-Is.is c.convert_expr.ensures.converts_as (ap (converted _) c.in_ok-src-in-Is.was)); in_turn = value-turn c.requires.converting.0 c.requires.converting.1 c.requires.kind c.reference-e.ensures c.get_type.ensures c.in-Is.is c.convert_expr.ensures.converts_as (ap (converted _) c.in_ok-src-in-Is.was) (c.convert_expr.ensures.types _ _ (ap (converted _) c.in_ok-src-in-Is.was)) }
+declare_init-requires c = record { converting = (new_converting c.requires.converting.0 c.requires.converting.1 c.requires.kind c.reference-e.ensures c.get_type.ensures c.in_ok-y.was c.convert_expr.ensures.converts_as (ap (converted _) c.in_ok-src.was), new_afforded c.requires.converting.0 c.requires.converting.1 c.requires.kind c.reference-e.ensures c.get_type.ensures c.in_ok-y.was c.convert_expr.ensures.converts_as (ap (converted _) c.in_ok-src.was)); kind = (c.requires.kind, new-typed c.requires.converting.0 c.requires.converting.1 c.requires.kind c.reference-e.ensures c.get_type.ensures c.in_ok-y.was c.convert_expr.ensures.converts_as (ap (converted _) c.in_ok-src.was)); in_turn = value-turn c.requires.converting.0 c.requires.converting.1 c.requires.kind c.reference-e.ensures c.get_type.ensures c.in_ok-y.was c.convert_expr.ensures.converts_as (ap (converted _) c.in_ok-src.was) (c.convert_expr.ensures.types _ _ (ap (converted _) c.in_ok-src.was)) }
 
-pub returns-in-Refused : goal.returns-in-Refused
-returns-in-Refused c = record { states_as = new_untyped c.requires.converting.0 c.requires.converting.1 c.requires.kind c.reference-e.ensures c.get_type.ensures c.in-Refused.is; types = refused-stated }
+pub returns-in_err-y : goal.returns-in_err-y
+returns-in_err-y c = let p = err_from_is_err_and c.from_residual.result c.from_residual.ensures.1 in rw (p.1, p.2) (record { states_as = new_untyped c.requires.converting.0 c.requires.converting.1 c.requires.kind c.reference-e.ensures c.get_type.ensures c.in_err-y.was; types = refused-stated })
 
-pub returns-in_err-src-in-Is : goal.returns-in_err-src-in-Is
-returns-in_err-src-in-Is c = let p = err_from_is_err_and c.from_residual.result c.from_residual.ensures.1 in rw (p.1, p.2) (record { states_as = new-stop c.requires.converting.0 c.requires.converting.1 c.requires.kind c.reference-e.ensures c.get_type.ensures c.in-Is.is c.convert_expr.ensures.converts_as (ap (converted _) c.in_err-src-in-Is.was); types = refused-stated })
+pub returns-in_err-src : goal.returns-in_err-src
+returns-in_err-src c = let p = err_from_is_err_and c.from_residual-in_err-src.result c.from_residual-in_err-src.ensures.1 in rw (p.1, p.2) (record { states_as = new-stop c.requires.converting.0 c.requires.converting.1 c.requires.kind c.reference-e.ensures c.get_type.ensures c.in_ok-y.was c.convert_expr.ensures.converts_as (ap (converted _) c.in_err-src.was); types = refused-stated })
 
-pub returns-in_ok-src-in-Is : goal.returns-in_ok-src-in-Is
-returns-in_ok-src-in-Is c = record { states_as = new-done c.requires.converting.0 c.requires.converting.1 c.requires.kind c.reference-e.ensures c.get_type.ensures c.in-Is.is c.convert_expr.ensures.converts_as (ap (converted _) c.in_ok-src-in-Is.was) c.declare_init.ensures.declares_as; types = λ sc k h. value_types_lem c.requires.converting.0 c.requires.converting.1 c.requires.kind c.reference-e.ensures c.get_type.ensures c.in-Is.is c.convert_expr.ensures.converts_as (ap (converted _) c.in_ok-src-in-Is.was) (c.convert_expr.ensures.types _ _ (ap (converted _) c.in_ok-src-in-Is.was)) (c.declare_init.ensures.types sc k h) }
+pub returns : goal.returns
+returns c = record { states_as = new-done c.requires.converting.0 c.requires.converting.1 c.requires.kind c.reference-e.ensures c.get_type.ensures c.in_ok-y.was c.convert_expr.ensures.converts_as (ap (converted _) c.in_ok-src.was) c.declare_init.ensures.declares_as; types = λ sc k h. value_types_lem c.requires.converting.0 c.requires.converting.1 c.requires.kind c.reference-e.ensures c.get_type.ensures c.in_ok-y.was c.convert_expr.ensures.converts_as (ap (converted _) c.in_ok-src.was) (c.convert_expr.ensures.types _ _ (ap (converted _) c.in_ok-src.was)) (c.declare_init.ensures.types sc k h) }
