@@ -43,12 +43,7 @@ fn list_functions(tree: &[u8], scratch: &mut [u8]) -> usize
 }
 
 // One turn of get_all_functions: the j-th function against those before it, which are entered by their keys.
-fn check_function(
-    tree: &[u8],
-    text: &[u8],
-    scratch: &[u8],
-    j: usize,
-) -> Result<(), ConvertError>
+fn check_function(tree: &[u8], text: &[u8], scratch: &[u8], j: usize) -> Result<(), ConvertError>
     requires good { Good tree.now text.now × Numbered tree.now text.now scratch.now }
     requires listed { Listed tree.now scratch.now }
     requires j_in_bounds { (j < length (function_places tree.now)) × KeySlots tree.now text.now scratch.now (keys_below tree.now text.now j) }

@@ -14,8 +14,8 @@ declare_name-requires c = (
   met_room _ _ _ _ c.requires.ready _ c.requires.params_at c.requires.fact.0 c.requires.fact.1 _ c.reference-p.ensures _ c.word.ensures _ refl refl,
 )
 
-pub overflow_cast-place : goal.overflow_cast-place
-overflow_cast-place c = place-word _ _ _ _ c.requires.ready _ c.requires.params_at c.requires.fact.0 c.requires.fact.1 _ c.reference-p.ensures
+pub overflow_cast-p : goal.overflow_cast-p
+overflow_cast-p c = omega (arith, place-word _ _ _ _ c.requires.ready _ c.requires.params_at c.requires.fact.0 c.requires.fact.1 _ c.reference-p.ensures)
 
 pub returns : goal.returns
 returns c =
