@@ -6,14 +6,8 @@ use Rattle.records.proofs.WalkLaws.{walk_start, walk_here, walk_end, here-below,
 use Rattle.records.proofs.order.find_place.Goals.{else-before-shared-2, then-before-shared-2+else-a}
 use Rattle.records.proofs.order.find_place.Goals as goal
 
-pub load-link-requires : goal.load-link-requires
-load-link-requires c = omega (arith, c.requires.chain_room.3)
-
 pub loop-link-init : goal.loop-link-init
 loop-link-init c = walk_start _ _ _ _ _ c.requires.leads c.requires.chain_room.3 _ c.load-link.ensures
-
-pub overflow_mul-e : goal.overflow_mul-e
-overflow_mul-e c = let loop = c.loop-link in let k : ℕ = loop.link - 1 in let here = walk_here _ _ _ _ _ _ _ _ k (omega arith) loop.invariant in omega (arith, here-below _ _ _ _ _ _ _ _ k here, c.requires.chain_room.0.few, c.requires.chain_room.2)
 
 pub overflow_mul-e-in-loop-link : goal.overflow_mul-e-in-loop-link
 overflow_mul-e-in-loop-link c = let loop = c.loop-link in let k : ℕ = loop.link - 1 in let here = walk_here _ _ _ _ _ _ _ _ k (omega arith) loop.invariant in omega (arith, here-below _ _ _ _ _ _ _ _ k here, c.requires.chain_room.0.few, c.requires.chain_room.2)
