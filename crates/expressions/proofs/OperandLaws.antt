@@ -1,5 +1,7 @@
 -- The rules of operators as the code meets them: classes of operands, one operand, two operands, their common type, and what is refused.
 -- By the form of a type, by the cases of a class, and by the tests' answers one after the other. Assumes nothing.
+use Rattle.std.specs.Prelude.{Option as StdOption, Some, None, Ok, Err}
+use Rattle.expressions.specs.Answers.{Answer}
 use mathlib.Core.Path.{◌≡◌, refl, sym, ap, ◌∙◌, subst}
 use mathlib.Core.Bool.{Bool, true, false}
 use mathlib.Core.List.{List, [], ◌∷◌}
@@ -18,11 +20,9 @@ use Rattle.syntax.specs.Decode.{bit, text_of, wide_of, program, type_at}
 use Rattle.conversion.specs.ConvertError.{ConvertErrorKind, Result, err, WrongOperands, LiteralOutOfRange}
 use Rattle.conversion.specs.Types.{is_int, on_int, is_number, fits, range_error}
 use Rattle.conversion.specs.Expressions.{OperandClass, Bools, Any, Numbers, Integers, operand_class, gives_bool, filter_option, common_of, accepts_unary, accepts_class, unary_type, binary_error, accepted, binary_type}
-use Rattle.records.specs.declared.words.Found.{Found}
 use Rattle.types.specs.Fits.{IsType, fits_at, range_error_at}
 use Rattle.types.specs.Operators.{class_number, result_number}
 use Rattle.types.proofs.FromGood.{is-type}
-use Rattle.expressions.specs.declared.answers.ExprType.{ExprType}
 use Rattle.expressions.specs.declared.operands.Sides.{Sides}
 use Rattle.syntax.specs.Places.{IsExpr, IsKind, TypeAt, expr_at}
 use Rattle.keys.specs.Keys.{all_keys}
@@ -31,14 +31,14 @@ use Rattle.expressions.proofs.PartLaws.{first_kind}
 use Rattle.expressions.proofs.TypingLaws.{place_is, found-is}
 
 -- a refusal as the answer
-pub refused-at : (tree : List ℕ) (m : Result ℕ) (k : ConvertErrorKind) (p : ℕ) (a : ExprType) → m ≡ err k p → a ≡ ExprType.Refused (record { kind = k; place = p })
+pub refused-at : (tree : List ℕ) (m : Result ℕ) (k : ConvertErrorKind) (p : ℕ) (a : Answer ℕ) → m ≡ err k p → a ≡ Err (record { kind = k; place = p })
     → TypeIs tree a m
 unfolding type_result refusal
-refused-at tree m k p a e q = record { is = e ∙ sym (ap type_result q); type = subst (λ (z : ExprType). IsTyped tree z) (sym q) IsTyped.no }
+refused-at tree m k p a e q = record { is = e ∙ sym (ap type_result q); type = subst (λ (z : Answer ℕ). IsTyped tree z) (sym q) IsTyped.no }
 
 -- a type that was found
-pub found_type_lem : (tree : List ℕ) (f : Found) (y : ℕ) → TypeFound tree f → f ≡ Found.At y → TypeAt tree y
-found_type_lem tree f y t q = found-is (subst (λ (z : Found). TypeFound tree z) q t)
+pub found_type_lem : (tree : List ℕ) (f : StdOption ℕ) (y : ℕ) → TypeFound tree f → f ≡ Some y → TypeAt tree y
+found_type_lem tree f y t q = found-is (subst (λ (z : StdOption ℕ). TypeFound tree z) q t)
 
 -- two expressions with their types, put together
 pub operands-are : (tree : List ℕ) (s : Sides) (a l b r : ℕ) → s ≡ record { left = a; left_type = l; right = b; right_type = r }
@@ -136,11 +136,11 @@ module _ (tree text : List ℕ) (y : ℕ) where
     tested-by = sym (eb ∙ ap (λ (z : ℕ). accepts_unary (program tree text) (all_keys tree text) (get_or unary_ops z Neg) y) ed)
 
     pub unary-taken : b ≡ true → TypeAt tree y
-        → TypeIs tree (ExprType.Is y) (unary_type (program tree text) (all_keys tree text) e (get_or unary_ops (detail_of tree e) Neg) y)
+        → TypeIs tree (Ok y) (unary_type (program tree text) (all_keys tree text) e (get_or unary_ops (detail_of tree e) Neg) y)
     unfolding unary_type pick type_result
     unary-taken q t = record { is = rw (tested-by ∙ q); type = IsTyped.is t }
 
-    pub unary-refused : b ≡ false → (a : ExprType) → a ≡ ExprType.Refused (record { kind = WrongOperands; place = e })
+    pub unary-refused : b ≡ false → (a : Answer ℕ) → a ≡ Err (record { kind = WrongOperands; place = e })
         → TypeIs tree a (unary_type (program tree text) (all_keys tree text) e (get_or unary_ops (detail_of tree e) Neg) y)
     unfolding unary_type pick
     unary-refused q a w =
@@ -163,7 +163,7 @@ module _ (tree text : List ℕ) (good : Good tree text) (s : Sides) (o : Operand
     unfolding fits_at expr_at program
     right-test = sym (eb text)
 
-    pub common-left : b ≡ true → FoundIs tree (Found.At s.left_type) common
+    pub common-left : b ≡ true → FoundIs tree (Some s.left_type) common
     unfolding common_of pick found_number
     common-left q = record { is = rw (right-test ∙ q); type = TypeFound.a_type o.left_type }
 
@@ -172,11 +172,11 @@ module _ (tree text : List ℕ) (good : Good tree text) (s : Sides) (o : Operand
       unfolding fits_at expr_at program
       left-test = sym (ec text)
 
-      pub common-right : c ≡ true → FoundIs tree (Found.At s.right_type) common
+      pub common-right : c ≡ true → FoundIs tree (Some s.right_type) common
       unfolding common_of pick found_number
       common-right p = record { is = rw (right-test ∙ q, left-test ∙ p); type = TypeFound.a_type o.right_type }
 
-      pub common-none : c ≡ false → FoundIs tree Found.Nothing common
+      pub common-none : c ≡ false → FoundIs tree None common
       unfolding common_of pick found_number
       common-none p = record { is = rw (right-test ∙ q, left-test ∙ p); type = TypeFound.no_type }
 
@@ -190,7 +190,7 @@ module _ (tree text : List ℕ) (good : Good tree text) (s : Sides) (o : Operand
       unfolding range_error_at expr_at program
       right_range = sym (eb text)
 
-      pub error-right : b ≡ true → (a : ExprType) → a ≡ ExprType.Refused (record { kind = LiteralOutOfRange; place = s.right }) → TypeIs tree a error
+      pub error-right : b ≡ true → (a : Answer ℕ) → a ≡ Err (record { kind = LiteralOutOfRange; place = s.right }) → TypeIs tree a error
       unfolding binary_error pick
       error-right q a w =
           refused-at tree error LiteralOutOfRange s.right a
@@ -201,13 +201,13 @@ module _ (tree text : List ℕ) (good : Good tree text) (s : Sides) (o : Operand
         unfolding range_error_at expr_at program
         left_range = sym (ec text)
 
-        pub error-left : c ≡ true → (a : ExprType) → a ≡ ExprType.Refused (record { kind = LiteralOutOfRange; place = s.left }) → TypeIs tree a error
+        pub error-left : c ≡ true → (a : Answer ℕ) → a ≡ Err (record { kind = LiteralOutOfRange; place = s.left }) → TypeIs tree a error
         unfolding binary_error pick
         error-left p a w =
             refused-at tree error LiteralOutOfRange s.left a
             (rw (right_range ∙ q, left_range ∙ p) (ap (λ (z : ℕ). err LiteralOutOfRange z) (place_is tree text good s.left o.left))) w
 
-        pub error-rest : c ≡ false → (a : ExprType) → a ≡ ExprType.Refused (record { kind = WrongOperands; place = e }) → TypeIs tree a error
+        pub error-rest : c ≡ false → (a : Answer ℕ) → a ≡ Err (record { kind = WrongOperands; place = e }) → TypeIs tree a error
         unfolding binary_error pick
         error-rest p a w = refused-at tree error WrongOperands e a (rw (right_range ∙ q, left_range ∙ p)) w
 
@@ -223,7 +223,7 @@ module _ (tree text : List ℕ) (good : Good tree text) (s : Sides) (o : Operand
       whole = binary_type (program tree text) (all_keys tree text) e op (expr_at tree text s.left) s.left_type (expr_at tree text s.right) s.right_type
 
       module _ (cl rs : ℕ) (ops : (cl ≡ class_number (operand_class (get_or binary_ops d Or))) × (rs ≡ result_number (gives_bool (get_or binary_ops d Or))))
-          (f : Found) (ef : FoundIs tree f common) where
+          (f : StdOption ℕ) (ef : FoundIs tree f common) where
         class_is : cl ≡ class_number (operand_class op)
         class_is = ops.0 ∙ ap (λ (z : ℕ). class_number (operand_class (get_or binary_ops z Or))) ed
 
@@ -231,11 +231,11 @@ module _ (tree text : List ℕ) (good : Good tree text) (s : Sides) (o : Operand
         result-is = ops.1 ∙ ap (λ (z : ℕ). result_number (gives_bool (get_or binary_ops z Or))) ed
 
         -- no common type
-        pub none-common : f ≡ Found.Nothing → (a : ExprType) → TypeIs tree a error → TypeIs tree a whole
+        pub none-common : f ≡ None → (a : Answer ℕ) → TypeIs tree a error → TypeIs tree a whole
         unfolding binary_type accepted filter_option found_number
         none-common q a h = record { is = rw (sym ef.is ∙ ap found_number q) h.is; type = h.type }
 
-        module _ (y : ℕ) (q : f ≡ Found.At y) (b : Bool)
+        module _ (y : ℕ) (q : f ≡ Some y) (b : Bool)
             (eb : Accepts tree text cl y b) where
           found : common ≡ some y
           unfolding found_number
@@ -244,7 +244,7 @@ module _ (tree text : List ℕ) (good : Good tree text) (s : Sides) (o : Operand
           taken : accepts_class (program tree text) (all_keys tree text) (operand_class op) y ≡ b
           taken = sym (eb (operand_class op) class_is)
 
-          pub not_taken : b ≡ false → (a : ExprType) → TypeIs tree a error → TypeIs tree a whole
+          pub not_taken : b ≡ false → (a : Answer ℕ) → TypeIs tree a error → TypeIs tree a whole
           unfolding binary_type accepted filter_option pick
           not_taken n a h = record { is = rw (found, taken ∙ n) h.is; type = h.type }
 
@@ -257,14 +257,14 @@ module _ (tree text : List ℕ) (good : Good tree text) (s : Sides) (o : Operand
             common_result_lem true h z = absurd (z h)
             common_result_lem false h z = refl
 
-            pub gives_bool_lem : rs ≡ 1 → TypeIs tree (ExprType.Is 6) whole
+            pub gives_bool_lem : rs ≡ 1 → TypeIs tree (Ok 6) whole
             unfolding binary_type accepted filter_option pick type_result
             gives_bool_lem z = record {
               is = rw (found, taken ∙ t, bool-result (gives_bool op) result-is z);
               type = IsTyped.is (first-type tree text good e k.below (λ w. omega (arith, k.kind)) 6 (omega arith));
             }
 
-            pub gives-common : (rs ≡ 1 → ⊥) → TypeIs tree (ExprType.Is y) whole
+            pub gives-common : (rs ≡ 1 → ⊥) → TypeIs tree (Ok y) whole
             unfolding binary_type accepted filter_option pick type_result
             gives-common z = record {
               is = rw (found, taken ∙ t, common_result_lem (gives_bool op) result-is z);

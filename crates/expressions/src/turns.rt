@@ -7,7 +7,7 @@ ghost use Rattle.records.specs.Words.{records};
 ghost use Rattle.expressions.specs.Slots.{in_turn, visits_at, beside_at, after_visit, Forgets};
 ghost use Rattle.expressions.specs.Answers.{Keepable, Keeps};
 
-use crate::answers::ExprType;
+use records::convert_error::ConvertError;
 use records::layout::{
     BESIDE_BYTES, BESIDES, SCRATCH, TURN_BYTES, TURNS, TYPE_SLOT_BYTES, TYPE_SLOTS,
 };
@@ -45,19 +45,15 @@ pub(crate) fn keep(
     scratch: &mut [u8],
     turn: u32,
     e: usize,
-    a: ExprType,
+    a: Result<usize, ConvertError>,
     b: usize,
-) -> ExprType
+) -> Result<usize, ConvertError>
     requires { Keepable tree.now e a b scratch.old }
     ensures { Keeps tree.now turn e a b scratch.old result scratch.new }
 {
-    match a {
-        ExprType::Refused(x) => ExprType::Refused(x),
-        ExprType::Is(y) => {
-            visit(tree, scratch, turn, e, y, b);
-            ExprType::Is(y)
-        }
-    }
+    let y = a?;
+    visit(tree, scratch, turn, e, y, b);
+    Ok(y)
 }
 
 // What is kept beside the type of e.
@@ -75,11 +71,7 @@ pub fn forget(tree: &[u8], scratch: &mut [u8])
     ensures { Forgets tree.now scratch.old scratch.new }
 {
     let n = tree.len() / RECORD_BYTES;
-    let mut i = TURNS * n;
-    while i < SCRATCH * n {
-        scratch[i] = 0;
-        i += 1;
-    }
+    scratch[TURNS * n..SCRATCH * n].fill(0);
 }
 
 // How many visits were made.

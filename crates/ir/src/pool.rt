@@ -16,8 +16,7 @@ use crate::floats::{FloatBits, entry_bits};
 use crate::search::walk_float;
 use crate::structs::Counters;
 use records::words::{
-    Found, Four, SECOND_WORD, THIRD_WORD, high, index, load, low, mark, put_four, put_pair,
-    put_word,
+    Four, SECOND_WORD, THIRD_WORD, high, index, load, low, mark, put_four, put_pair, put_word,
 };
 
 // An entry's number, and the counters that count it.
@@ -151,11 +150,11 @@ pub fn float_id(arena: &mut [u8], k: Counters, f: FloatBits) -> PoolNumber
     let b = float_bucket(k.records, w);
     let last = float_head(arena, k, b);
     match walk_float(arena, FLOATS * k.records, FLOAT_LINKS * k.records, last, w) {
-        Found::At(i) => PoolNumber {
+        Some(i) => PoolNumber {
             number: i as u32,
             counters: k,
         },
-        Found::Nothing => add_float(arena, k, w, b, last),
+        None => add_float(arena, k, w, b, last),
     }
 }
 

@@ -20,7 +20,7 @@ use records::layout::{
 };
 use records::texts::roll_digest;
 use records::words::{
-    Found, RECORD_BYTES, WORD_A, WORD_B, WORD_C, detail, index, load, put_word, reference,
+    RECORD_BYTES, WORD_A, WORD_B, WORD_C, detail, index, load, put_word, reference,
 };
 use texts::{kept_digest, original};
 
@@ -141,20 +141,20 @@ pub fn enter_key(tree: &[u8], text: &[u8], scratch: &mut [u8], f: usize)
 }
 
 // The function whose key is the text of this number: one load, whatever the functions are.
-pub fn find_key(tree: &[u8], text: &[u8], scratch: &[u8], number: usize) -> Found
+pub fn find_key(tree: &[u8], text: &[u8], scratch: &[u8], number: usize) -> Option<usize>
     requires { Good tree.now text.now × (scratch_each * records tree.now ≤ length scratch.now) × (number < records tree.now) }
     ensures { FindsKey tree.now text.now scratch.now number result }
 {
     let n = tree.len() / RECORD_BYTES;
     let w = index(load(scratch, KEY_SLOTS * n + KEY_SLOT_BYTES * number));
     if w == 0 {
-        return Found::Nothing;
+        return None;
     }
-    Found::At(w - 1)
+    Some(w - 1)
 }
 
 // The function that is entered with the key of function f.
-pub fn find_own_key(tree: &[u8], text: &[u8], scratch: &[u8], f: usize) -> Found
+pub fn find_own_key(tree: &[u8], text: &[u8], scratch: &[u8], f: usize) -> Option<usize>
     requires good { Good tree.now text.now × Numbered tree.now text.now scratch.now × (scratch_each * records tree.now ≤ length scratch.now) }
     requires function_at { FunctionAt tree.now f }
     ensures { FindsOwnKey tree.now text.now scratch.now f result }

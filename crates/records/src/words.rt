@@ -152,13 +152,6 @@ pub fn put_four(buf: &mut [u8], at: usize, w: Four)
     put_pair(buf, third, w.2, w.3);
 }
 
-// What a search answers: the number of the entry, or that there is none.
-#[derive(Clone, Copy)]
-pub enum Found {
-    At(usize),
-    Nothing,
-}
-
 // Whether 64 bits are a NaN's: without the sign, above an infinity's.
 pub fn nan_bits(b: u64) -> bool
     ensures { result ≡ nan_bits binary64 b }

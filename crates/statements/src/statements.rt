@@ -18,24 +18,24 @@ ghost use Rattle.statements.specs.Parts.{copy_fitted, zero_float};
 ghost use Rattle.statements.specs.Answers.{ZeroMeets, givens, given, ConvertsAs, StatesAs, CallOnlyAs, DeclaresAs, cond_steps, declare_steps, init_steps, init_new_steps, assign_steps, assign_to_steps, return_steps, return_as_steps, call_statement_steps, call_only_steps, break_steps, continue_steps, declare_init_steps};
 ghost use Rattle.statements.specs.Turns.{InTurn, no_types, call_only_types, value_types, assign_types, init_types, head_types, return_as_types, own_types, ConvertsTyped, StatesTyped};
 
-use crate::answers::{Converted, ConvertedArgs, Converter, Finished, Stated, error_at};
+use crate::answers::{Converter, error_at};
 use crate::exprs::{convert_args, convert_expr};
 use crate::fits::{check_fits, fit_operand, pass_args};
 use crate::jumps::jump;
 use crate::numbers::{LOOP_END, LOOP_START};
-use expressions::answers::{ExprType, Outcome, Resolved};
+use expressions::answers::Callee;
 use expressions::expressions::{get_type, resolve_call};
 use expressions::names::{declare_name, find_name};
 use ir::floats::float_entry;
 use ir::lent::{float_id, new_var};
 use ir::structs::{Operand, VarId, emit_call_only, emit_copy, emit_return, emit_zero};
-use records::convert_error::ConvertErrorKind;
+use records::convert_error::{ConvertError, ConvertErrorKind};
 use records::numbers::{
     ADDRESS_OF_NULL, BOOL_TYPE, FORM_ADDRESS, FORM_ARRAY, FORM_CUSTOM, FORM_FLOAT, FORM_INT,
     KIND_CALL, NULL_TYPE,
 };
 use records::words::{NONE, WORD_A, WORD_C, WORD_D, detail, kind, reference, word};
-use scope::{Declared, InLoop, Known};
+use scope::Scope;
 use types::form::{form, is_short, is_unsigned};
 
 // The operand of the condition e, which must be a Bool.
@@ -47,7 +47,7 @@ pub(crate) fn convert_cond(
     k: &mut [usize],
     c: Converter,
     e: usize,
-) -> Converted
+) -> Result<Operand, ConvertError>
     requires converting { Converting tree.now text.now arena.old scratch.old (at c k.old) × ExprAfforded tree.now text.now (at c k.old) e }
     requires expr { IsExpr tree.now e }
     requires in_turn { InTurn tree.now text.now scratch.old (at c k.old) }
@@ -55,15 +55,11 @@ pub(crate) fn convert_cond(
     ensures types { ConvertsTyped value_types (at c k.old) e tree.now text.now scratch.old (converted k.new result) scratch.new }
 {
     let scope = c.scope;
-    match get_type(tree, text, scratch, scope, c.turn, e) {
-        ExprType::Refused(x) => Converted::Refused(x),
-        ExprType::Is(y) => {
-            if y == BOOL_TYPE {
-                return convert_expr(tree, text, arena, scratch, k, c, e);
-            }
-            Converted::Refused(error_at(ConvertErrorKind::NotBool, e))
-        }
+    let y = get_type(tree, text, scratch, scope, c.turn, e)?;
+    if y == BOOL_TYPE {
+        return convert_expr(tree, text, arena, scratch, k, c, e);
     }
+    Err(error_at(ConvertErrorKind::NotBool, e))
 }
 
 fn zero_float(arena: &mut [u8], k: &mut [usize], v: VarId, short: bool)
@@ -85,7 +81,13 @@ fn zero_operand(f: u8) -> Operand
 }
 
 // The zero value that the Declare r writes; of a Custom the Rust would panic.
-fn zero_value(tree: &[u8], arena: &mut [u8], k: &mut [usize], r: usize, v: VarId) -> Finished
+fn zero_value(
+    tree: &[u8],
+    arena: &mut [u8],
+    k: &mut [usize],
+    r: usize,
+    v: VarId,
+) -> Result<(), ConvertError>
     requires { RoomFor (counted k.old) arena.old (amount 1 0 0 0 1) × IsType tree.now v.1 × (r < 4294967296) }
     ensures { ZeroMeets tree.now r v (counted k.old) arena.old (finished_with k.new result) arena.new }
 {
@@ -95,21 +97,21 @@ fn zero_value(tree: &[u8], arena: &mut [u8], k: &mut [usize], r: usize, v: VarId
     if f == FORM_INT {
         let zero = Operand::Int(0, short, is_unsigned(tree, y));
         emit_copy(arena, k, v, zero);
-        return Finished::Done;
+        return Ok(());
     }
     if f == FORM_FLOAT {
         zero_float(arena, k, v, short);
-        return Finished::Done;
+        return Ok(());
     }
     if f == FORM_ARRAY {
         emit_zero(arena, k, v);
-        return Finished::Done;
+        return Ok(());
     }
     if f == FORM_CUSTOM {
-        return Finished::Refused(error_at(ConvertErrorKind::WouldPanic, r));
+        return Err(error_at(ConvertErrorKind::WouldPanic, r));
     }
     emit_copy(arena, k, v, zero_operand(f));
-    Finished::Done
+    Ok(())
 }
 
 // The Declare r: the variable takes its number before its name is looked at.
@@ -121,7 +123,7 @@ pub(crate) fn convert_declare(
     k: &mut [usize],
     c: Converter,
     r: usize,
-) -> Stated
+) -> Result<Scope, ConvertError>
     requires converting { Converting tree.now text.now arena.old scratch.old (at c k.old) × BehindAfforded tree.now text.now (at c k.old) r }
     requires kind { IsKind tree.now kind_declare r }
     requires in_turn { InTurn tree.now text.now scratch.old (at c k.old) }
@@ -130,13 +132,11 @@ pub(crate) fn convert_declare(
 {
     let scope = c.scope;
     let v = new_var(arena, k, word(tree, r, WORD_C));
-    match declare_name(tree, text, scratch, scope, r, v, false) {
-        Declared::Taken => Stated::Refused(error_at(ConvertErrorKind::AlreadyDeclared, r)),
-        Declared::Done(next) => match zero_value(tree, arena, k, r, v) {
-            Finished::Refused(x) => Stated::Refused(x),
-            Finished::Done => Stated::Done(next),
-        },
-    }
+    let Some(next) = declare_name(tree, text, scratch, scope, r, v, false) else {
+        return Err(error_at(ConvertErrorKind::AlreadyDeclared, r));
+    };
+    zero_value(tree, arena, k, r, v)?;
+    Ok(next)
 }
 
 // The operand, fitted to the variable's type, is copied into it.
@@ -158,7 +158,7 @@ fn assign_to(
     c: Converter,
     r: usize,
     v: VarId,
-) -> Stated
+) -> Result<Scope, ConvertError>
     requires converting { Converting tree.now text.now arena.old scratch.old (at c k.old) × BehindAfforded tree.now text.now (at c k.old) r }
     requires kind { IsKind tree.now kind_init r × TypeAt tree.now v.1 }
     requires in_turn { InTurn tree.now text.now scratch.old (at c k.old) }
@@ -167,22 +167,12 @@ fn assign_to(
 {
     let scope = c.scope;
     let e = reference(tree, r, WORD_C);
-    match convert_expr(tree, text, arena, scratch, k, c, e) {
-        Converted::Refused(x) => Stated::Refused(x),
-        Converted::Is(src) => match get_type(tree, text, scratch, scope, c.turn, e) {
-            ExprType::Refused(x) => Stated::Refused(x),
-            ExprType::Is(y) => {
-                let expected = v.1 as usize;
-                match check_fits(tree, e, y, expected, ConvertErrorKind::WrongAssignType, r) {
-                    Outcome::Refused(x) => Stated::Refused(x),
-                    Outcome::Done => {
-                        copy_fitted(tree, arena, k, v, src);
-                        Stated::Done(scope)
-                    }
-                }
-            }
-        },
-    }
+    let src = convert_expr(tree, text, arena, scratch, k, c, e)?;
+    let y = get_type(tree, text, scratch, scope, c.turn, e)?;
+    let expected = v.1 as usize;
+    check_fits(tree, e, y, expected, ConvertErrorKind::WrongAssignType, r)?;
+    copy_fitted(tree, arena, k, v, src);
+    Ok(scope)
 }
 
 fn convert_assign(
@@ -195,7 +185,7 @@ fn convert_assign(
     r: usize,
     v: VarId,
     constant: bool,
-) -> Stated
+) -> Result<Scope, ConvertError>
     requires converting { Converting tree.now text.now arena.old scratch.old (at c k.old) × BehindAfforded tree.now text.now (at c k.old) r }
     requires kind { IsKind tree.now kind_init r × TypeAt tree.now v.1 }
     requires in_turn { InTurn tree.now text.now scratch.old (at c k.old) }
@@ -203,7 +193,7 @@ fn convert_assign(
     ensures types { StatesTyped assign_types (at c k.old) r tree.now text.now scratch.old (stated k.new result) scratch.new }
 {
     if constant {
-        return Stated::Refused(error_at(ConvertErrorKind::AssignToConstant, r));
+        return Err(error_at(ConvertErrorKind::AssignToConstant, r));
     }
     assign_to(tree, text, arena, scratch, k, c, r, v)
 }
@@ -229,7 +219,7 @@ fn declare_init(
     r: usize,
     y: usize,
     src: Operand,
-) -> Stated
+) -> Result<Scope, ConvertError>
     requires converting { Converting tree.now text.now arena.old scratch.old (at c k.old) × Afforded tree.now (at c k.old) (amount 1 1 0 0 0) 0 1 }
     requires kind { IsKind tree.now kind_init r × TypeAt tree.now y }
     requires in_turn { InTurn tree.now text.now scratch.old (at c k.old) }
@@ -239,13 +229,11 @@ fn declare_init(
     let scope = c.scope;
     let constant = detail(tree, r) == 1;
     let v = new_var(arena, k, init_type(y) as u32);
-    match declare_name(tree, text, scratch, scope, r, v, constant) {
-        Declared::Taken => Stated::Refused(error_at(ConvertErrorKind::AlreadyDeclared, r)),
-        Declared::Done(next) => {
-            emit_copy(arena, k, v, src);
-            Stated::Done(next)
-        }
-    }
+    let Some(next) = declare_name(tree, text, scratch, scope, r, v, constant) else {
+        return Err(error_at(ConvertErrorKind::AlreadyDeclared, r));
+    };
+    emit_copy(arena, k, v, src);
+    Ok(next)
 }
 
 // The Init r of a new name.
@@ -257,7 +245,7 @@ fn init_new(
     k: &mut [usize],
     c: Converter,
     r: usize,
-) -> Stated
+) -> Result<Scope, ConvertError>
     requires converting { Converting tree.now text.now arena.old scratch.old (at c k.old) × BehindAfforded tree.now text.now (at c k.old) r }
     requires kind { IsKind tree.now kind_init r }
     requires in_turn { InTurn tree.now text.now scratch.old (at c k.old) }
@@ -266,13 +254,9 @@ fn init_new(
 {
     let scope = c.scope;
     let e = reference(tree, r, WORD_C);
-    match get_type(tree, text, scratch, scope, c.turn, e) {
-        ExprType::Refused(x) => Stated::Refused(x),
-        ExprType::Is(y) => match convert_expr(tree, text, arena, scratch, k, c, e) {
-            Converted::Refused(x) => Stated::Refused(x),
-            Converted::Is(src) => declare_init(tree, text, arena, scratch, k, c, r, y, src),
-        },
-    }
+    let y = get_type(tree, text, scratch, scope, c.turn, e)?;
+    let src = convert_expr(tree, text, arena, scratch, k, c, e)?;
+    declare_init(tree, text, arena, scratch, k, c, r, y, src)
 }
 
 // The Init r: a plain one of a known name assigns.
@@ -284,7 +268,7 @@ pub(crate) fn convert_init(
     k: &mut [usize],
     c: Converter,
     r: usize,
-) -> Stated
+) -> Result<Scope, ConvertError>
     requires converting { Converting tree.now text.now arena.old scratch.old (at c k.old) × BehindAfforded tree.now text.now (at c k.old) r }
     requires kind { IsKind tree.now kind_init r }
     requires in_turn { InTurn tree.now text.now scratch.old (at c k.old) }
@@ -296,10 +280,18 @@ pub(crate) fn convert_init(
         return init_new(tree, text, arena, scratch, k, c, r);
     }
     match find_name(tree, text, scratch, scope, r) {
-        Known::Is(v, constant) => {
-            convert_assign(tree, text, arena, scratch, k, c, r, v, constant)
-        }
-        Known::Unknown => init_new(tree, text, arena, scratch, k, c, r),
+        Some(known) => convert_assign(
+            tree,
+            text,
+            arena,
+            scratch,
+            k,
+            c,
+            r,
+            known.var,
+            known.constant,
+        ),
+        None => init_new(tree, text, arena, scratch, k, c, r),
     }
 }
 
@@ -314,7 +306,7 @@ fn return_as(
     r: usize,
     y: usize,
     expected: usize,
-) -> Stated
+) -> Result<Scope, ConvertError>
     requires converting { Converting tree.now text.now arena.old scratch.old (at c k.old) × BehindAfforded tree.now text.now (at c k.old) r }
     requires kind { IsKind tree.now kind_return r × TypeAt tree.now y × TypeAt tree.now expected }
     requires in_turn { InTurn tree.now text.now scratch.old (at c k.old) }
@@ -323,17 +315,11 @@ fn return_as(
 {
     let scope = c.scope;
     let e = reference(tree, r, WORD_A);
-    match check_fits(tree, e, y, expected, ConvertErrorKind::WrongReturnType, r) {
-        Outcome::Refused(x) => Stated::Refused(x),
-        Outcome::Done => match convert_expr(tree, text, arena, scratch, k, c, e) {
-            Converted::Refused(x) => Stated::Refused(x),
-            Converted::Is(value) => {
-                let fitted = fit_operand(tree, arena, k, value, expected);
-                emit_return(arena, k, fitted);
-                Stated::Done(scope)
-            }
-        },
-    }
+    check_fits(tree, e, y, expected, ConvertErrorKind::WrongReturnType, r)?;
+    let value = convert_expr(tree, text, arena, scratch, k, c, e)?;
+    let fitted = fit_operand(tree, arena, k, value, expected);
+    emit_return(arena, k, fitted);
+    Ok(scope)
 }
 
 // The Return r: its type is held against the function's before the value is converted.
@@ -345,7 +331,7 @@ pub(crate) fn convert_return(
     k: &mut [usize],
     c: Converter,
     r: usize,
-) -> Stated
+) -> Result<Scope, ConvertError>
     requires converting { Converting tree.now text.now arena.old scratch.old (at c k.old) × BehindAfforded tree.now text.now (at c k.old) r }
     requires kind { IsKind tree.now kind_return r }
     requires in_turn { InTurn tree.now text.now scratch.old (at c k.old) }
@@ -355,15 +341,11 @@ pub(crate) fn convert_return(
     let scope = c.scope;
     let e = reference(tree, r, WORD_A);
     let expected = reference(tree, scope.function as usize, WORD_D);
-    match get_type(tree, text, scratch, scope, c.turn, e) {
-        ExprType::Refused(x) => Stated::Refused(x),
-        ExprType::Is(y) => {
-            if expected == NONE as usize {
-                return Stated::Refused(error_at(ConvertErrorKind::ReturnWithoutType, r));
-            }
-            return_as(tree, text, arena, scratch, k, c, r, y, expected)
-        }
+    let y = get_type(tree, text, scratch, scope, c.turn, e)?;
+    if expected == NONE as usize {
+        return Err(error_at(ConvertErrorKind::ReturnWithoutType, r));
     }
+    return_as(tree, text, arena, scratch, k, c, r, y, expected)
 }
 
 // A call of f by the call e, whose result is not used.
@@ -376,7 +358,7 @@ fn call_only(
     c: Converter,
     e: usize,
     f: usize,
-) -> Stated
+) -> Result<Scope, ConvertError>
     requires converting { Converting tree.now text.now arena.old scratch.old (at c k.old) × ExprAfforded tree.now text.now (at c k.old) e }
     requires kind { IsKind tree.now kind_call e × FunctionAt tree.now f }
     requires in_turn { InTurn tree.now text.now scratch.old (at c k.old) }
@@ -384,14 +366,10 @@ fn call_only(
     ensures types { StatesTyped call_only_types (at c k.old) e tree.now text.now scratch.old (stated k.new result) scratch.new }
 {
     let scope = c.scope;
-    match convert_args(tree, text, arena, scratch, k, c, e) {
-        ConvertedArgs::Refused(x) => Stated::Refused(x),
-        ConvertedArgs::Done(count) => {
-            pass_args(tree, text, arena, scratch, k, c, e, f, count);
-            emit_call_only(arena, k, f as u32);
-            Stated::Done(scope)
-        }
-    }
+    let count = convert_args(tree, text, arena, scratch, k, c, e)?;
+    pass_args(tree, text, arena, scratch, k, c, e, f, count);
+    emit_call_only(arena, k, f as u32);
+    Ok(scope)
 }
 
 // The call statement r whose expression e is a call; at a cast the Rust would panic.
@@ -404,7 +382,7 @@ fn call_statement(
     c: Converter,
     r: usize,
     e: usize,
-) -> Stated
+) -> Result<Scope, ConvertError>
     requires converting { Converting tree.now text.now arena.old scratch.old (at c k.old) × BehindAfforded tree.now text.now (at c k.old) r }
     requires kind { IsKind tree.now kind_call_statement r × IsKind tree.now kind_call e × (e ≡ word_of tree.now r Words.A) }
     requires in_turn { InTurn tree.now text.now scratch.old (at c k.old) }
@@ -412,10 +390,9 @@ fn call_statement(
     ensures types { StatesTyped own_types (at c k.old) r tree.now text.now scratch.old (stated k.new result) scratch.new }
 {
     let scope = c.scope;
-    match resolve_call(tree, text, scratch, scope, c.turn, e) {
-        Resolved::Refused(x) => Stated::Refused(x),
-        Resolved::Cast(_) => Stated::Refused(error_at(ConvertErrorKind::WouldPanic, r)),
-        Resolved::Function(f) => call_only(tree, text, arena, scratch, k, c, e, f),
+    match resolve_call(tree, text, scratch, scope, c.turn, e)? {
+        Callee::Cast(_) => Err(error_at(ConvertErrorKind::WouldPanic, r)),
+        Callee::Function(f) => call_only(tree, text, arena, scratch, k, c, e, f),
     }
 }
 
@@ -428,7 +405,7 @@ pub(crate) fn convert_call(
     k: &mut [usize],
     c: Converter,
     r: usize,
-) -> Stated
+) -> Result<Scope, ConvertError>
     requires converting { Converting tree.now text.now arena.old scratch.old (at c k.old) × BehindAfforded tree.now text.now (at c k.old) r }
     requires kind { IsKind tree.now kind_call_statement r }
     requires in_turn { InTurn tree.now text.now scratch.old (at c k.old) }
@@ -440,10 +417,8 @@ pub(crate) fn convert_call(
     if kind(tree, e) == KIND_CALL {
         return call_statement(tree, text, arena, scratch, k, c, r, e);
     }
-    match get_type(tree, text, scratch, scope, c.turn, e) {
-        ExprType::Refused(x) => Stated::Refused(x),
-        ExprType::Is(_) => Stated::Done(scope),
-    }
+    get_type(tree, text, scratch, scope, c.turn, e)?;
+    Ok(scope)
 }
 
 // The Break r goes to the end of the innermost loop.
@@ -455,19 +430,17 @@ pub(crate) fn convert_break(
     k: &mut [usize],
     c: Converter,
     r: usize,
-) -> Stated
+) -> Result<Scope, ConvertError>
     requires converting { Converting tree.now text.now arena.old scratch.now (at c k.old) × BehindAfforded tree.now text.now (at c k.old) r }
     requires kind { IsKind tree.now kind_break r }
     ensures { StatesAs break_steps (at c k.old) r tree.now text.now arena.old scratch.now (stated k.new result) arena.new scratch.now }
 {
     let scope = c.scope;
-    match scope.in_loop() {
-        InLoop::Outside => Stated::Refused(error_at(ConvertErrorKind::BreakOutOfLoop, r)),
-        InLoop::Of(l) => {
-            jump(arena, k, LOOP_END, l as usize);
-            Stated::Done(scope)
-        }
-    }
+    let Some(l) = scope.in_loop() else {
+        return Err(error_at(ConvertErrorKind::BreakOutOfLoop, r));
+    };
+    jump(arena, k, LOOP_END, l as usize);
+    Ok(scope)
 }
 
 // The Continue r goes to the start of the innermost loop, which for a For is where it counts on.
@@ -479,17 +452,15 @@ pub(crate) fn convert_continue(
     k: &mut [usize],
     c: Converter,
     r: usize,
-) -> Stated
+) -> Result<Scope, ConvertError>
     requires converting { Converting tree.now text.now arena.old scratch.now (at c k.old) × BehindAfforded tree.now text.now (at c k.old) r }
     requires kind { IsKind tree.now kind_continue r }
     ensures { StatesAs continue_steps (at c k.old) r tree.now text.now arena.old scratch.now (stated k.new result) arena.new scratch.now }
 {
     let scope = c.scope;
-    match scope.in_loop() {
-        InLoop::Outside => Stated::Refused(error_at(ConvertErrorKind::ContinueOutOfLoop, r)),
-        InLoop::Of(l) => {
-            jump(arena, k, LOOP_START, l as usize);
-            Stated::Done(scope)
-        }
-    }
+    let Some(l) = scope.in_loop() else {
+        return Err(error_at(ConvertErrorKind::ContinueOutOfLoop, r));
+    };
+    jump(arena, k, LOOP_START, l as usize);
+    Ok(scope)
 }

@@ -45,7 +45,7 @@ pub loop-cell-smaller : goal.loop-cell-smaller
 loop-cell-smaller c = rw c.next_cell-cell.ensures (first_cell _ _ _ _ _ c.loop-cell.invariant.argued c.loop-cell-test.true c.argument_type.ensures.0).falls
 
 pub loop-cell-preserved : goal.loop-cell-preserved
-loop-cell-preserved c = rw (c.next_cell-cell.ensures, c.later-best.ensures)
+loop-cell-preserved c = rw (c.next_cell-cell.ensures, c.or-best.ensures)
     (prefix_more _ _ _ _ c.requires.called _ _ _ _ _ c.loop-cell.invariant _ c.by_marked-found.ensures _ _ (first_cell _ _ _ _ _ c.loop-cell.invariant.argued c.loop-cell-test.true c.argument_type.ensures.0) c.type_key-key.ensures
     (key_short _ _ _ _ c.type_key-key.ensures (λ i. omega (arith, c.shared_slice_known-1.given i))) _ _ c.roll_byte.ensures.0 c.roll-digest.ensures)
 
@@ -56,4 +56,4 @@ pub by_marked-requires : goal.by_marked-requires
 by_marked-requires c = record { keyed = c.requires.keyed; called = c.requires.called; k_le_count = (c.loop-cell.invariant.number, c.loop-cell.invariant.sized, prefix_marked _ _ _ _ c.requires.called _ _ _ _ _ c.loop-cell.invariant _ c.marked_digest-marked-2.ensures) }
 
 pub returns : goal.returns
-returns c = rw c.later.ensures (prefix_end _ _ _ _ c.requires.called _ _ _ _ _ c.loop-cell.invariant _ c.by_marked.ensures c.loop-cell-test.false)
+returns c = rw c.or.ensures (prefix_end _ _ _ _ c.requires.called _ _ _ _ _ c.loop-cell.invariant _ c.by_marked.ensures c.loop-cell-test.false)

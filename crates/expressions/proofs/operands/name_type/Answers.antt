@@ -11,12 +11,8 @@ find_name-requires c = name-asked c.requires.good c.requires.scoped c.requires.k
 pub refuse_type-requires : goal.refuse_type-requires
 refuse_type-requires c = omega (arith, c.requires.kind.below, c.requires.good.0.few)
 
-pub returns-in-Is : goal.returns-in-Is
-returns-in-Is c = let found = c in
-    let first = c in
-    name-known _ _ _ _ _ c.requires.scoped c.requires.kind _ c.find_name.ensures _ _ c.in-Is.is
+pub returns : goal.returns
+returns c = name-known _ _ _ _ _ c.requires.scoped c.requires.kind _ c.find_name.ensures _ c.in-Some.is
 
-pub returns-in-Unknown : goal.returns-in-Unknown
-returns-in-Unknown c = let found = c in
-    let first = c in
-    name_unknown _ _ _ _ _ c.requires.scoped c.requires.kind _ c.find_name.ensures c.in-Unknown.is _ c.refuse_type.ensures
+pub returns-in_default : goal.returns-in_default
+returns-in_default c = name_unknown _ _ _ _ _ c.requires.scoped c.requires.kind _ c.find_name.ensures c.in_default.is _ c.refuse_type.ensures
