@@ -29,7 +29,7 @@ use Rattle.ir.proofs.CutLaws.{instructions-are, variables-are, labels-are, funct
 use Rattle.judge.specs.Judge.{Buffers, buffers, lengths_of, verdict, Judged, judged, cleared, judged_in, judge_leaves}
 use Rattle.judge.specs.Keeps.{JudgeKeeps, placed, unplaced}
 use Rattle.judge.specs.declared.Lengths.{Lengths}
-use Rattle.std.specs.Prelude.{Ok, Err}
+use Rattle.std.specs.Prelude.{Result as StdResult, Ok, Err}
 use Rattle.judge.proofs.RowLaws.{cleared-length, core_kept, core_cleared, answer_in_lem, outputs-cleared, outputs-kept}
 use Rattle.expressions.specs.Slots.{visits_at}
 use Rattle.statements.specs.Lent.{Finished}
@@ -41,7 +41,7 @@ use Rattle.demands.proofs.GoodLaws.{good-visits}
 use Rattle.demands.proofs.WaysOut.{refused_run, good_in, some_in, enough_in, failed_run, converted_run}
 use Rattle.demands.proofs.Demands.{every_call}
 use Rattle.converter.specs.declared.Counts.{Counts}
-use Rattle.converter.specs.Convert.{Answer, pool_of, ConvertsTo, counts_in, outputs, CutAfforded, SameTableLengths, FinishesIn, SevenLong, counts_from, answer_from, Promised}
+use Rattle.converter.specs.Convert.{pool_of, ConvertsTo, counts_in, outputs, CutAfforded, SameTableLengths, FinishesIn, SevenLong, counts_from, answer_from, Promised}
 
 -- ---- one component after the other
 
@@ -84,7 +84,7 @@ module _ (done : Finished) (n : ℕ) (i v l f s x i' v' l' f' s' x' : List ℕ) 
   finish-converted k c q e long cut = record {
     long = long;
     converted = λ m z. let y : k ≡ m = cc in
-        subst (λ (o : Counters). (◌≡◌ {A = Answer} (Ok c) (Ok (counts_in o n))) × Cut.Cut o i i' v' l' f' s' x') y (ap Ok e, cut);
+        subst (λ (o : Counters). (◌≡◌ {A = StdResult Counts ConvertError} (Ok c) (Ok (counts_in o n))) × Cut.Cut o i i' v' l' f' s' x') y (ap Ok e, cut);
     refused = λ r z. absurd (let y : ◌≡◌ {A = ℕ} 0 1 = cc in omega arith);
   }
 
@@ -116,7 +116,7 @@ module _ (tree text : List ℕ) (needsMain : Bool) (i v l f s x t : List ℕ) (d
 
   -- the visits that are read, and the buffers afterwards
   module _ (good : Good tree text) (n : ℕ) (read : n ≡ visits_at tree u)
-      (a : Answer) (i' v' l' f' s' x' t' : List ℕ) (e : FinishesIn done n a (outputs j v l f s x) (outputs i' v' l' f' s' x')) (z : t' ≡ cleared u) where
+      (a : StdResult Counts ConvertError) (i' v' l' f' s' x' t' : List ℕ) (e : FinishesIn done n a (outputs j v l f s x) (outputs i' v' l' f' s' x')) (z : t' ≡ cleared u) where
     scratch-zero : t' ≡ cleared t
     scratch-zero = z ∙ cleared-same u t m.scratch_long
 
@@ -282,14 +282,14 @@ module _ (tree text : List ℕ) (b : Buffers) (r : Judged) (b₁ : Buffers) (fir
         })
 
   module _ (needsMain : Bool) (bytes : (i : ℕ) → get_or tree i 0 < 256) where
-    kept : (a : Answer) (b₂ : Buffers) → Calls tree text needsMain b (answer_from tree a) b₂ → Promised tree text needsMain b a b₂
+    kept : (a : StdResult Counts ConvertError) (b₂ : Buffers) → Calls tree text needsMain b (answer_from tree a) b₂ → Promised tree text needsMain b a b₂
     kept a b₂ c = record { bytes = all-bytes tree bytes; calls = c; demands = every_call ℕ tree text needsMain b (answer_from tree a) b₂ c }
 
     pub judge_refuses : (e : ConvertError) → r ≡ Err e → Promised tree text needsMain b (Err e) b₁
     unfolding answer_from
     judge_refuses e q = kept (Err e) b₁ (rw (first.refused e q) (refused_run tree text needsMain b e (sym first.is ∙ q)))
 
-    module _ (q : r ≡ Ok tt) (a : Answer) (b₂ : Buffers) (rust : AsTheRust tree text needsMain b₁ (answer_from tree a) b₂) where
+    module _ (q : r ≡ Ok tt) (a : StdResult Counts ConvertError) (b₂ : Buffers) (rust : AsTheRust tree text needsMain b₁ (answer_from tree a) b₂) where
       -- the same over the buffers as found, but for scratch
       found : AsTheRust tree text needsMain (buffers b.instructions b.variables b.labels b.functions b.strings b.floats b₁.scratch) (answer_from tree a) b₂
       found = subst (λ (z : Buffers). AsTheRust tree text needsMain z (answer_from tree a) b₂) (first.accepted q).0 rust

@@ -28,10 +28,6 @@ use Rattle.demands.specs.Call.{Calls}
 use Rattle.demands.specs.Demands.{Demands}
 use Rattle.converter.specs.declared.Counts.{Counts}
 
--- what the call answers: how many entries each table has, or why the tree is refused
-abbrev pub Answer : Type 0
-Answer = StdResult Counts ConvertError
-
 -- ---- while converting: all tables stand in the arena
 
 -- the pool of a program
@@ -112,7 +108,7 @@ pub record SameTableLengths (b b' : Written.Tables) : Type 0 where
   pub strings : length b'.strings ≡ length b.strings
   pub floats : length b'.floats ≡ length b.floats
 
-pub record FinishesIn (done : Finished) (visits : ℕ) (a : Answer) (b b' : Written.Tables) : Type 0 where
+pub record FinishesIn (done : Finished) (visits : ℕ) (a : StdResult Counts ConvertError) (b b' : Written.Tables) : Type 0 where
   pub long : SameTableLengths b b'
   pub converted : (k : Counters) → done ≡ Finished.Done k → (a ≡ Ok (counts_in k visits))
       × Cut.Cut k b.instructions b'.instructions b'.variables b'.labels b'.functions b'.strings b'.floats
@@ -138,14 +134,14 @@ counts_from c = record {
 }
 
 -- 'An answer is the number, place and the record's span, or six counts', and the visits behind them
-unfoldable pub answer_from : List ℕ → Answer → Call.Answer
+unfoldable pub answer_from : List ℕ → StdResult Counts ConvertError → Call.Answer
 unfolding words_of
 answer_from tree (Ok c) = Call.Counted (counts_from c) c.visits
 answer_from tree (Err e) = Call.Refusal (words_of tree e)
 
 -- THE PROMISE: a tree is bytes; the answer and each byte of the seven buffers are those of the one definition of the call; and with it
 -- the three demands hold, with what is said of visits, the third for runs over natural numbers (over every type of values: `promised_everywhere` in proofs/Everywhere.antt)
-pub record Promised (tree text : List ℕ) (needsMain : Bool) (before : Buffers) (answer : Answer) (after : Buffers) : Type 0 where
+pub record Promised (tree text : List ℕ) (needsMain : Bool) (before : Buffers) (answer : StdResult Counts ConvertError) (after : Buffers) : Type 0 where
   pub bytes : All Byte tree
   pub calls : Calls tree text needsMain before (answer_from tree answer) after
   pub demands : Demands ℕ tree text needsMain before (answer_from tree answer) after
