@@ -21,7 +21,7 @@ use Rattle.records.specs.declared.convert_error.ConvertError.{ConvertError}
 use Rattle.records.specs.Words.{byte_at, word_at, word_of, text_at, records, A}
 use Rattle.records.specs.Kinds.{kind_call}
 use Rattle.records.specs.Good.{Good}
-use Rattle.records.proofs.GoodLaws.{inside, call-a, call-c}
+use Rattle.records.proofs.GoodLaws.{call-a, call-c}
 use Rattle.syntax.specs.Syntax.{Text, Function, Program}
 use Rattle.syntax.specs.Decode.{program, text_of, type_at}
 use Rattle.conversion.specs.ConvertError.{Result, err, ◌>>=◌, UnknownFunction, AmbiguousCall, InvalidCast}
@@ -252,9 +252,6 @@ module _ (tree text s : List ℕ) (K : Keyed tree text s) (c : Call) (h : Called
           go found (one_yet {f = f} a q) = one_yet a (q ∙ ap (λ (x : List Function). x ++ (function_of tree text f ∷ [])) (other b e t ∙ next))
 
 -- ---- the cast
-
-pub type-inside : (tree text : List ℕ) → Good tree text → (y : ℕ) → TypeAt tree y → y * 32 + 32 ≤ length tree
-type-inside tree text good y t = inside tree text good y t.below
 
 module _ (tree text : List ℕ) (verb : Text) (l : List TypedArg) (r : ℕ) (b : Bool) (h : b ≡ same_text verb cast_verb) where
   pub cast-not : not b ≡ true → cast_type (program tree text) (all_keys tree text) verb l r ≡ cast_result (Ok None)

@@ -21,7 +21,9 @@ use Rattle.conversion.specs.ConvertError.{ConvertErrorKind, Result, err, WrongOp
 use Rattle.conversion.specs.Types.{is_int, on_int, is_number, fits, range_error}
 use Rattle.conversion.specs.Expressions.{OperandClass, Bools, Any, Numbers, Integers, operand_class, gives_bool, filter_option, common_of, accepts_unary, accepts_class, unary_type, binary_error, accepted, binary_type}
 use Rattle.types.specs.Fits.{IsType, fits_at, range_error_at}
-use Rattle.types.specs.Operators.{class_number, result_number}
+use Rattle.types.specs.Operators.{class_of, result_of}
+use Rattle.types.specs.declared.operators.OperandClass as CodeClass
+use Rattle.types.specs.declared.operators.ResultClass.{ResultClass}
 use Rattle.types.proofs.FromGood.{is-type}
 use Rattle.expressions.specs.declared.operands.Sides.{Sides}
 use Rattle.syntax.specs.Places.{IsExpr, IsKind, TypeAt, expr_at}
@@ -59,7 +61,33 @@ module _ (tree text : List ℕ) (good : Good tree text) where
   pub type_of_lem : (y : ℕ) → TypeAt tree y → IsType tree y
   type_of_lem y t = is-type tree text good y t.below t.kind
 
--- ---- classes of operands
+-- ---- classes of operands and of results
+
+-- different classes of the definition are different in the code
+class_back : CodeClass.OperandClass → OperandClass
+class_back CodeClass.OperandClass.Bools = Bools
+class_back CodeClass.OperandClass.Any = Any
+class_back CodeClass.OperandClass.Numbers = Numbers
+class_back CodeClass.OperandClass.Integers = Integers
+
+there_and_back : (c : OperandClass) → class_back (class_of c) ≡ c
+unfolding class_back
+there_and_back Bools = refl
+there_and_back Any = refl
+there_and_back Numbers = refl
+there_and_back Integers = refl
+
+one_class : (c k : OperandClass) → class_of c ≡ class_of k → c ≡ k
+one_class c k e = sym (there_and_back c) ∙ ap class_back e ∙ there_and_back k
+
+result_back : ResultClass → Bool
+result_back ResultClass.Common = false
+result_back ResultClass.Bool = true
+
+result_is : (r : ResultClass) (g : Bool) → r ≡ result_of g → g ≡ result_back r
+unfolding result_back
+result_is r true e = sym (ap result_back e)
+result_is r false e = sym (ap result_back e)
 
 -- among the forms only the first is an Int
 int_entry : (p q : Bool) (u n : ℕ) (t : Text) (f : ℕ)
@@ -83,36 +111,10 @@ module _ (tree text : List ℕ) (y : ℕ) where
   int_form f e = rw e
       (int_entry (bit 16 (detail_of tree y)) (bit 32 (detail_of tree y)) (word_of tree y A) (wide_of tree text y B) (text_of tree text y A) (detail_of tree y % 16))
 
-  module _ (class : ℕ) where
-    pub accepts_bools : class ≡ 0 → (c : OperandClass) → class ≡ class_number c → eqb y 6 ≡ accepts_class (program tree text) (all_keys tree text) c y
-    unfolding accepts_class
-    accepts_bools q Bools e = refl
-    accepts_bools q Any e = absurd (omega arith)
-    accepts_bools q Numbers e = absurd (omega arith)
-    accepts_bools q Integers e = absurd (omega arith)
-
-    pub accepts_any : class ≡ 1 → (c : OperandClass) → class ≡ class_number c → true ≡ accepts_class (program tree text) (all_keys tree text) c y
-    unfolding accepts_class
-    accepts_any q Bools e = absurd (omega arith)
-    accepts_any q Any e = refl
-    accepts_any q Numbers e = absurd (omega arith)
-    accepts_any q Integers e = absurd (omega arith)
-
-    pub accepts_numbers : class ≡ 2 → (b : Bool) → ((text' : List ℕ) → b ≡ is_number (type_at tree text' y))
-        → (c : OperandClass) → class ≡ class_number c → b ≡ accepts_class (program tree text) (all_keys tree text) c y
-    unfolding accepts_class program
-    accepts_numbers q b h Bools e = absurd (omega arith)
-    accepts_numbers q b h Any e = absurd (omega arith)
-    accepts_numbers q b h Numbers e = h text
-    accepts_numbers q b h Integers e = absurd (omega arith)
-
-    pub accepts_integers : (class ≡ 0 → ⊥) → (class ≡ 1 → ⊥) → (class ≡ 2 → ⊥) → (f : ℕ) → f ≡ detail_of tree y % 16
-        → (c : OperandClass) → class ≡ class_number c → eqb f 1 ≡ accepts_class (program tree text) (all_keys tree text) c y
-    unfolding accepts_class program
-    accepts_integers n₀ n₁ n₂ f ef Bools e = absurd (n₀ e)
-    accepts_integers n₀ n₁ n₂ f ef Any e = absurd (n₁ e)
-    accepts_integers n₀ n₁ n₂ f ef Numbers e = absurd (n₂ e)
-    accepts_integers n₀ n₁ n₂ f ef Integers e = int_form f ef
+  -- the class in the code is the definition's k
+  pub accepts_as : (class : CodeClass.OperandClass) (k : OperandClass) → class ≡ class_of k → (b : Bool)
+      → b ≡ accepts_class (program tree text) (all_keys tree text) k y → Accepts tree text class y b
+  accepts_as class k q b h c e = h ∙ ap (λ (z : OperandClass). accepts_class (program tree text) (all_keys tree text) z y) (one_class k c (sym q ∙ e))
 
   -- one operand
   pub unary_int : (op : ℕ) → op ≡ 1 → (f : ℕ) → f ≡ detail_of tree y % 16 → eqb f 1 ≡ accepts_unary (program tree text) (all_keys tree text) (get_or unary_ops op Neg) y
@@ -222,13 +224,14 @@ module _ (tree text : List ℕ) (good : Good tree text) (s : Sides) (o : Operand
       abbrev whole : Result ℕ
       whole = binary_type (program tree text) (all_keys tree text) e op (expr_at tree text s.left) s.left_type (expr_at tree text s.right) s.right_type
 
-      module _ (cl rs : ℕ) (ops : (cl ≡ class_number (operand_class (get_or binary_ops d Or))) × (rs ≡ result_number (gives_bool (get_or binary_ops d Or))))
+      module _ (cl : CodeClass.OperandClass) (rs : ResultClass)
+          (ops : (cl ≡ class_of (operand_class (get_or binary_ops d Or))) × (rs ≡ result_of (gives_bool (get_or binary_ops d Or))))
           (f : StdOption ℕ) (ef : FoundIs tree f common) where
-        class_is : cl ≡ class_number (operand_class op)
-        class_is = ops.0 ∙ ap (λ (z : ℕ). class_number (operand_class (get_or binary_ops z Or))) ed
+        class_is : cl ≡ class_of (operand_class op)
+        class_is = ops.0 ∙ ap (λ (z : ℕ). class_of (operand_class (get_or binary_ops z Or))) ed
 
-        result-is : rs ≡ result_number (gives_bool op)
-        result-is = ops.1 ∙ ap (λ (z : ℕ). result_number (gives_bool (get_or binary_ops z Or))) ed
+        gives : gives_bool op ≡ result_back rs
+        gives = result_is rs (gives_bool op) (ops.1 ∙ ap (λ (z : ℕ). result_of (gives_bool (get_or binary_ops z Or))) ed)
 
         -- no common type
         pub none-common : f ≡ None → (a : Answer ℕ) → TypeIs tree a error → TypeIs tree a whole
@@ -249,24 +252,16 @@ module _ (tree text : List ℕ) (good : Good tree text) (s : Sides) (o : Operand
           not_taken n a h = record { is = rw (found, taken ∙ n) h.is; type = h.type }
 
           module _ (t : b ≡ true) where
-            bool-result : (g : Bool) → rs ≡ result_number g → rs ≡ 1 → g ≡ true
-            bool-result true h z = refl
-            bool-result false h z = absurd (omega arith)
-
-            common_result_lem : (g : Bool) → rs ≡ result_number g → (rs ≡ 1 → ⊥) → g ≡ false
-            common_result_lem true h z = absurd (z h)
-            common_result_lem false h z = refl
-
-            pub gives_bool_lem : rs ≡ 1 → TypeIs tree (Ok 6) whole
-            unfolding binary_type accepted filter_option pick type_result
+            pub gives_bool_lem : rs ≡ ResultClass.Bool → TypeIs tree (Ok 6) whole
+            unfolding binary_type accepted filter_option pick type_result result_back
             gives_bool_lem z = record {
-              is = rw (found, taken ∙ t, bool-result (gives_bool op) result-is z);
+              is = rw (found, taken ∙ t, gives ∙ ap result_back z);
               type = IsTyped.is (first-type tree text good e k.below (λ w. omega (arith, k.kind)) 6 (omega arith));
             }
 
-            pub gives-common : (rs ≡ 1 → ⊥) → TypeIs tree (Ok y) whole
-            unfolding binary_type accepted filter_option pick type_result
+            pub gives-common : rs ≡ ResultClass.Common → TypeIs tree (Ok y) whole
+            unfolding binary_type accepted filter_option pick type_result result_back
             gives-common z = record {
-              is = rw (found, taken ∙ t, common_result_lem (gives_bool op) result-is z);
+              is = rw (found, taken ∙ t, gives ∙ ap result_back z);
               type = IsTyped.is (found_type_lem tree f y ef.type q);
             }

@@ -81,21 +81,6 @@ err-ok k p x e = let z : ◌≡◌ {A = ℕ} 0 1 = cc in omega arith
 refused-is : (r : ConvertError) (y : ℕ) → ◌≡◌ {A = Answer ℕ} (Err r) (Ok y) → ⊥
 refused-is r y e = let z : ◌≡◌ {A = ℕ} 0 1 = cc in omega arith
 
--- what is kept of a refusal, and of a type
-pub keeps_refusal : (tree : List ℕ) (turn e : ℕ) (a : Answer ℕ) (b : ℕ) (s : List ℕ) (r : ConvertError) → a ≡ Err r → Keeps tree turn e a b s (Err r) s
-keeps_refusal tree turn e a b s r q = record { same = sym q; type = λ y w. absurd (refused-is r y (sym q ∙ w)); refused = λ x w. refl }
-
-type-same : (y z : ℕ) → ◌≡◌ {A = Answer ℕ} (Ok y) (Ok z) → y ≡ z
-type-same y z e = cc
-
-pub keeps_type : (tree : List ℕ) (turn e : ℕ) (a : Answer ℕ) (b : ℕ) (s : List ℕ) (y : ℕ) → a ≡ Ok y → (s' : List ℕ) → s' ≡ after_visit tree turn e y b s
-    → Keeps tree turn e a b s (Ok y) s'
-keeps_type tree turn e a b s y q s' w = record {
-  same = sym q;
-  type = λ z v. w ∙ ap (λ (x : ℕ). after_visit tree turn e x b s) (type-same y z (sym q ∙ v));
-  refused = λ r v. absurd (refused-is r y (sym v ∙ q));
-}
-
 -- what succeeds after a callee has one
 callee-ok : {P : Type 0} (m : Result Callee) (f : Callee → Result ℕ) (y : ℕ) → (m >>= f) ≡ ok y → ((c : Callee) → m ≡ ok c → P) → P
 unfolding ◌>>=◌
@@ -382,10 +367,6 @@ module _ (tree text : List ℕ) (good : Good tree text) where
       }
 
   -- ---- a type that the turn remembers, or that is worked out in it
-
-  pub look_ready : (e : ℕ) → IsExpr tree e → (s : List ℕ) (sc : Scope) (turn : ℕ) → Typing tree text s sc turn
-      → (e < records tree) × (72 * records tree ≤ length s)
-  look_ready e x s sc turn typing = (expr-low tree text good e x, typing.ready.keyed.listed.room)
 
   module _ (e : ℕ) (x : IsExpr tree e) (s : List ℕ) (sc : Scope) (turn : ℕ) (typing : Typing tree text s sc turn) where
     abbrev U : Def.Scope

@@ -13,7 +13,8 @@ use Rattle.conversion.specs.Expressions as Defined
 use Rattle.conversion.specs.Expressions.{Callee, CallFunction, CallCast, return_type, value_type, get_argument_types, common_type, OperandClass, accepts_class, unary_type, binary_error, binary_type}
 use Rattle.scope.specs.declared.Scope.{Scope}
 use Rattle.scope.specs.Open.{scope_at}
-use Rattle.types.specs.Operators.{class_number}
+use Rattle.types.specs.declared.operators.OperandClass as CodeClass
+use Rattle.types.specs.Operators.{class_of}
 use Rattle.expressions.specs.declared.answers.Callee as Code
 use Rattle.expressions.specs.declared.answers.Candidates.{Candidates}
 use Rattle.expressions.specs.declared.operands.Sides.{Sides}
@@ -181,9 +182,9 @@ module _ (tree text : List ℕ) where
       binary_type (program tree text) (all_keys tree text) e (get_or binary_ops (detail_of tree e) Or)
       (expr_at tree text s.left) s.left_type (expr_at tree text s.right) s.right_type
 
-  -- the operator's class of operands, by its number, has this type or not
-  abbrev pub Accepts : ℕ → ℕ → Bool → Type 0
-  Accepts class y r = (c : OperandClass) → class ≡ class_number c → r ≡ accepts_class (program tree text) (all_keys tree text) c y
+  -- the operator's class of operands has this type or not
+  abbrev pub Accepts : CodeClass.OperandClass → ℕ → Bool → Type 0
+  Accepts class y r = (c : OperandClass) → class ≡ class_of c → r ≡ accepts_class (program tree text) (all_keys tree text) c y
 
 -- ---- what typing owes, of the answer and of the scratch before and after, in the scope that the open names stand for. Where nothing is refused it says
 -- which expressions were typed

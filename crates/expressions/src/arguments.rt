@@ -12,10 +12,11 @@ ghost use Rattle.expressions.specs.Calls.{typed_at, Argued};
 ghost use Rattle.expressions.specs.Slots.{slot_at, FirstType};
 ghost use Rattle.expressions.specs.Answers.{ArgumentIs, found_number, TypeFound};
 
+use crate::turns::entry;
 use keys::parts::{Part, text_part};
 use records::layout::{TYPE_SLOT_BYTES, TYPE_SLOTS};
 use records::numbers::KIND_VALUE;
-use records::words::{NONE, RECORD_BYTES, WORD_A, WORD_B, WORD_D, kind, load, reference};
+use records::words::{NONE, WORD_A, WORD_B, WORD_D, kind, reference};
 
 // No further cell.
 pub const END: usize = NONE as usize;
@@ -65,8 +66,7 @@ pub(crate) fn slot(tree: &[u8], scratch: &[u8], e: usize) -> usize
     requires { (e < records tree.now) × (scratch_each * records tree.now ≤ length scratch.now) }
     ensures { result ≡ slot_at tree.now scratch.now e }
 {
-    let n = tree.len() / RECORD_BYTES;
-    load(scratch, TYPE_SLOTS * n + TYPE_SLOT_BYTES * e) as usize
+    entry(tree, scratch, TYPE_SLOTS, TYPE_SLOT_BYTES, e) as usize
 }
 
 // The type of the argument in a cell.

@@ -26,7 +26,7 @@ use records::words::{NONE, WORD_D, detail, kind, reference};
 use scope::Scope;
 use types::fits::{fits, range_error};
 use types::form::{form, is_number};
-use types::operators::{ANY, BOOL, BOOLS, NUMBERS, operator_of};
+use types::operators::{OperandClass, ResultClass, operator_of};
 
 pub(crate) fn refuse_type(kind: ConvertErrorKind, place: usize) -> Result<usize, ConvertError>
     requires { place < 4294967296 }
@@ -39,20 +39,16 @@ pub(crate) fn refuse_type(kind: ConvertErrorKind, place: usize) -> Result<usize,
 }
 
 // Whether an operator's class of operands has this type.
-fn accepts(tree: &[u8], class: u8, ty: usize) -> bool
+fn accepts(tree: &[u8], class: OperandClass, ty: usize) -> bool
     requires { ty * record_bytes + record_bytes ≤ length tree.now }
     ensures { (text : List ℕ) → Accepts tree.now text class ty result }
 {
-    if class == BOOLS {
-        return ty == BOOL_TYPE;
+    match class {
+        OperandClass::Bools => ty == BOOL_TYPE,
+        OperandClass::Any => true,
+        OperandClass::Numbers => is_number(tree, ty),
+        OperandClass::Integers => form(tree, ty) == FORM_INT,
     }
-    if class == ANY {
-        return true;
-    }
-    if class == NUMBERS {
-        return is_number(tree, ty);
-    }
-    form(tree, ty) == FORM_INT
 }
 
 // Neg takes numbers, BitNot integers, Not Bool.
@@ -60,13 +56,11 @@ fn accepts_unary(tree: &[u8], op: u8, ty: usize) -> bool
     requires { ty * record_bytes + record_bytes ≤ length tree.now }
     ensures { (text : List ℕ) → result ≡ accepts_unary (program tree.now text) (all_keys tree.now text) (get_or unary_ops op Neg) ty }
 {
-    if op == BIT_NOT {
-        return form(tree, ty) == FORM_INT;
+    match op {
+        BIT_NOT => form(tree, ty) == FORM_INT,
+        NOT => ty == BOOL_TYPE,
+        _ => is_number(tree, ty),
     }
-    if op == NOT {
-        return ty == BOOL_TYPE;
-    }
-    is_number(tree, ty)
 }
 
 // The type of the Unary e, whose operand has type ty.
@@ -154,15 +148,13 @@ pub(crate) fn binary_type(
     ensures { TypeIs tree.now result (binary_type_at tree.now text.now e s) }
 {
     let op = operator_of(detail(tree, e) as usize);
-    if let Some(ty) = common {
-        if accepts(tree, op.operands, ty) {
-            if op.result == BOOL {
-                return Ok(BOOL_TYPE);
-            }
-            return Ok(ty);
-        }
+    match common {
+        Some(ty) if accepts(tree, op.operands, ty) => match op.result {
+            ResultClass::Common => Ok(ty),
+            ResultClass::Bool => Ok(BOOL_TYPE),
+        },
+        _ => binary_error(tree, text, e, s),
     }
-    binary_error(tree, text, e, s)
 }
 
 // The type of the Call e: what its callee gives back.
@@ -196,24 +188,15 @@ fn literal_type(tree: &[u8], text: &[u8], e: usize) -> usize
     requires e_bound { (kind_of tree.now e ≤ kind_size_of) × (kind_of tree.now e ≡ kind_name → ⊥) }
     ensures { TypeAt tree.now result × ((S : Def.Scope) → type_in tree.now text.now S e ≡ ok result) }
 {
-    let k = kind(tree, e);
     let mark = detail(tree, e) as usize;
-    if k == KIND_INT {
-        return mark;
+    match kind(tree, e) {
+        KIND_INT => mark,
+        KIND_FLOAT => FLOAT_LONG + mark,
+        KIND_STR => ADDRESS_OF_CHAR,
+        KIND_BOOL => BOOL_TYPE,
+        KIND_NULL => NULL_TYPE,
+        _ => UNSIGNED_LONG,
     }
-    if k == KIND_FLOAT {
-        return FLOAT_LONG + mark;
-    }
-    if k == KIND_STR {
-        return ADDRESS_OF_CHAR;
-    }
-    if k == KIND_BOOL {
-        return BOOL_TYPE;
-    }
-    if k == KIND_NULL {
-        return NULL_TYPE;
-    }
-    UNSIGNED_LONG
 }
 
 // The type of the Name e.

@@ -170,7 +170,3 @@ module _ (tree text : List ℕ) (e ty expected : ℕ) where
     pub range_no : l ≡ false → false ≡ range_error_at tree text e ty expected
     unfolding range_error_at range_error literal_at
     range_no q = rw (sym el ∙ q)
-
--- the second of two addresses is to Null, where the first is not
-pub nothing_right : (a a' b b' : ℕ) → a ≡ a' → (a ≡ 9 → ⊥) → b ≡ b' → eqb b 9 ≡ (eqb a' 9 || eqb b' 9)
-nothing_right a a' b b' e n q = rw (ne_eqb a' 9 (λ h. n (e ∙ h)), q)

@@ -14,9 +14,6 @@ loop-cell-init c = (
   λ p. (p, omega arith),
 )
 
-pub overflow_add-n : goal.overflow_add-n
-overflow_add-n c = omega (arith, c.loop-cell.invariant.1, c.requires.good.few)
-
 pub next_cell-cell-requires : goal.next_cell-cell-requires
 next_cell-cell-requires c = ⊎_elim (λ l. cell_below _ _ c.requires.good _ _ l c.loop-cell-test.true) (λ l. cell_below _ _ c.requires.good _ _ l c.loop-cell-test.true) c.loop-cell.invariant.0
 

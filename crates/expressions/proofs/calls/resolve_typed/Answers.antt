@@ -7,10 +7,6 @@ use Rattle.std.proofs.lemmas.Result.{err_from_is_err_and}
 use Rattle.expressions.proofs.CallLaws.{is_called, typed-refused, typed-cast, typed-function}
 use Rattle.expressions.proofs.calls.resolve_typed.Goals as goal
 
-pub call_of-call-requires : goal.call_of-call-requires
-call_of-call-requires c = let first = c in
-    record { good = (c.requires.keyed.good, c.requires.keyed.numbered, c.requires.keyed.listed.room); kind = c.requires.kind }
-
 pub cast_type-requires : goal.cast_type-requires
 cast_type-requires c = is_called _ _ _ _ _ c.call_of-call.ensures c.requires.keyed c.requires.kind c.requires.args_typed (λ i. omega (arith, c.shared_slice_known-1.given i))
 
