@@ -35,7 +35,6 @@ use Rattle.ir.specs.declared.structs.Operand.{Operand}
 use Rattle.ir.specs.declared.structs.VarId.{VarId}
 use Rattle.ir.specs.declared.pool.PoolNumber.{PoolNumber}
 use Rattle.ir.specs.Amounts.{Amount, amount, both}
-use Rattle.ir.specs.Arena.{HasSlot}
 use Rattle.ir.specs.Floats.{entry}
 use Rattle.ir.specs.Instructions.{var_of, operand_of}
 use Rattle.ir.specs.Steps.{Next, Emits, AddsVar, NumbersFloat, named}
@@ -361,9 +360,8 @@ module _ {tree text l s : List ℕ} {c : Converter} (p : Converting tree text l 
     loop-is q = in_loop_lem tree text s c.scope o m ∙ q
 
     -- what the jump asks: the loop is one of the records that the tables count
-    pub jump_asks : {x : ℕ} (kind : ℕ) → 1 ≤ kind → kind ≤ 7 → BehindAfforded tree text c r → o ≡ Some x
-        → RoomFor c.counters l (amount 1 0 1 0 0) × HasSlot c.counters.records (named kind x)
-    jump_asks {x = x} kind least most f q =
+    pub jump_asks : {x : ℕ} → BehindAfforded tree text c r → o ≡ Some x → RoomFor c.counters l (amount 1 0 1 0 0) × (x < c.counters.records)
+    jump_asks {x = x} f q =
         let h : x < records tree = p.loop x (sym m ∙ ap loop_of q) in
         (record { room = p.room; affords = omega (arith, f.tables) }, omega (arith, p.records_are))
 

@@ -12,6 +12,7 @@ ghost use Rattle.ir.specs.Counted.{counted};
 ghost use Rattle.ir.specs.Instructions.{operand_of, var_of};
 ghost use Rattle.expressions.specs.Slots.{Ready};
 ghost use Rattle.statements.specs.Converting.{Converting, RoomFor, OperandIn, BehindAfforded, BoundAfforded};
+ghost use Rattle.statements.specs.Labels.{label_number};
 ghost use Rattle.statements.specs.Lent.{at, stated, finished_with, found_variable};
 ghost use Rattle.statements.specs.Meets.{Adds};
 ghost use Rattle.statements.specs.Parts.{if_middle, loop_back, test_bound, place_label};
@@ -22,7 +23,7 @@ use crate::answers::{Converter, ForVariable, error_at};
 use crate::exprs::convert_expr;
 use crate::fits::{check_fits, fit_operand};
 use crate::jumps::{jump, jump_if_not, place_label};
-use crate::numbers::{CONDITION_END, LOOP_CHECK, LOOP_END, LOOP_START, OTHERWISE};
+use crate::numbers::LabelKind;
 use crate::statements::{convert_cond, copy_fitted};
 use expressions::expressions::get_type;
 use expressions::names::{declare_name, find_name};
@@ -44,15 +45,15 @@ pub(crate) fn has_otherwise(tree: &[u8], r: usize) -> bool
 }
 
 // Where the If r goes when its condition does not hold.
-fn if_not_label(tree: &[u8], r: usize) -> u32
+fn if_not_label(tree: &[u8], r: usize) -> LabelKind
     requires record_bytes_in_bounds { r * record_bytes + record_bytes ≤ length tree.now }
     requires r_bound { detail_of tree.now r ≤ 1 }
-    ensures { result ≡ pick (bit 1 (detail_of tree.now r)) (otherwise_label r).kind (condition_end r).kind }
+    ensures { label_number result ≡ pick (bit 1 (detail_of tree.now r)) (otherwise_label r).kind (condition_end r).kind }
 {
     if has_otherwise(tree, r) {
-        return OTHERWISE;
+        return LabelKind::Otherwise;
     }
-    CONDITION_END
+    LabelKind::ConditionEnd
 }
 
 // The If r before its then-block.
@@ -83,8 +84,8 @@ pub(crate) fn if_middle(arena: &mut [u8], k: &mut [usize], r: usize)
     requires { RoomFor (counted k.old) arena.old (amount 2 0 2 0 0) × (r < (counted k.old).records) }
     ensures { Adds (if_middle r) (amount 2 0 2 0 0) (counted k.old) arena.old tt (counted k.new) arena.new }
 {
-    jump(arena, k, CONDITION_END, r);
-    place_label(arena, k, OTHERWISE, r);
+    jump(arena, k, LabelKind::ConditionEnd, r);
+    place_label(arena, k, LabelKind::Otherwise, r);
 }
 
 // Behind the last block of the If r.
@@ -92,7 +93,7 @@ pub(crate) fn if_end(arena: &mut [u8], k: &mut [usize], r: usize)
     requires { RoomFor (counted k.old) arena.old (amount 1 0 1 0 0) × (r < (counted k.old).records) }
     ensures { Adds (place_label (condition_end r)) (amount 1 0 1 0 0) (counted k.old) arena.old tt (counted k.new) arena.new }
 {
-    place_label(arena, k, CONDITION_END, r);
+    place_label(arena, k, LabelKind::ConditionEnd, r);
 }
 
 // The While r before its body.
@@ -112,9 +113,9 @@ pub(crate) fn while_head(
     ensures types { FinishesTyped head_types (at c k.old) r tree.now text.now scratch.old (finished_with k.new result) scratch.new }
 {
     let e = reference(tree, r, WORD_A);
-    place_label(arena, k, LOOP_START, r);
+    place_label(arena, k, LabelKind::LoopStart, r);
     let cond = convert_cond(tree, text, arena, scratch, k, c, e)?;
-    jump_if_not(arena, k, cond, LOOP_END, r);
+    jump_if_not(arena, k, cond, LabelKind::LoopEnd, r);
     Ok(())
 }
 
@@ -123,8 +124,8 @@ pub(crate) fn loop_end(arena: &mut [u8], k: &mut [usize], r: usize)
     requires { RoomFor (counted k.old) arena.old (amount 2 0 2 0 0) × (r < (counted k.old).records) }
     ensures { Adds (loop_back r) (amount 2 0 2 0 0) (counted k.old) arena.old tt (counted k.new) arena.new }
 {
-    jump(arena, k, LOOP_START, r);
-    place_label(arena, k, LOOP_END, r);
+    jump(arena, k, LabelKind::LoopStart, r);
+    place_label(arena, k, LabelKind::LoopEnd, r);
 }
 
 // The For r that declares its variable, of record v, in the scope of its body.
@@ -250,10 +251,10 @@ fn count_on(tree: &[u8], arena: &mut [u8], k: &mut [usize], r: usize, x: VarId)
 {
     let y = x.1 as usize;
     let one = Operand::Int(1, is_short(tree, y), is_unsigned(tree, y));
-    jump(arena, k, LOOP_CHECK, r);
-    place_label(arena, k, LOOP_START, r);
+    jump(arena, k, LabelKind::LoopCheck, r);
+    place_label(arena, k, LabelKind::LoopStart, r);
     emit_binary(arena, k, x, ADD, Operand::Var(x), one);
-    place_label(arena, k, LOOP_CHECK, r);
+    place_label(arena, k, LabelKind::LoopCheck, r);
 }
 
 // The For r up to its check: its variable gets the first bound.
@@ -288,7 +289,7 @@ fn test_bound(tree: &[u8], arena: &mut [u8], k: &mut [usize], r: usize, x: VarId
     let bound = fit_operand(tree, arena, k, until, x.1 as usize);
     let cond = new_var(arena, k, BOOL_TYPE as u32);
     emit_binary(arena, k, cond, LT, Operand::Var(x), bound);
-    jump_if_not(arena, k, Operand::Var(cond), LOOP_END, r);
+    jump_if_not(arena, k, Operand::Var(cond), LabelKind::LoopEnd, r);
 }
 
 // The check of the For r: its second bound is computed anew at each turn.

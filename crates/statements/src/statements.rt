@@ -22,7 +22,7 @@ use crate::answers::{Converter, error_at};
 use crate::exprs::{convert_args, convert_expr};
 use crate::fits::{check_fits, fit_operand, pass_args};
 use crate::jumps::jump;
-use crate::numbers::{LOOP_END, LOOP_START};
+use crate::numbers::LabelKind;
 use expressions::answers::Callee;
 use expressions::expressions::{get_type, resolve_call};
 use expressions::names::{declare_name, find_name};
@@ -439,7 +439,7 @@ pub(crate) fn convert_break(
     let Some(l) = scope.in_loop() else {
         return Err(error_at(ConvertErrorKind::BreakOutOfLoop, r));
     };
-    jump(arena, k, LOOP_END, l as usize);
+    jump(arena, k, LabelKind::LoopEnd, l as usize);
     Ok(scope)
 }
 
@@ -461,6 +461,6 @@ pub(crate) fn convert_continue(
     let Some(l) = scope.in_loop() else {
         return Err(error_at(ConvertErrorKind::ContinueOutOfLoop, r));
     };
-    jump(arena, k, LOOP_START, l as usize);
+    jump(arena, k, LabelKind::LoopStart, l as usize);
     Ok(scope)
 }

@@ -6,7 +6,7 @@ use native.Mathlib.Omega.{arith}
 use Rattle.statements.proofs.statements.convert_break.Goals as goal
 
 pub jump-requires : goal.jump-requires
-jump-requires c = jump_asks c.requires.converting.0 _ _ c.in_loop.ensures 2 (omega arith) (omega arith) c.requires.converting.1 c.in-Some.is
+jump-requires c = jump_asks c.requires.converting.0 _ _ c.in_loop.ensures c.requires.converting.1 c.in-Some.is
 
 pub returns-in_default : goal.returns-in_default
 returns-in_default c = break_outside c.requires.converting.0 _ _ c.in_loop.ensures (none-left _ c.in_default.not-Some) c.error_at.ensures
