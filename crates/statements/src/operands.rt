@@ -173,8 +173,7 @@ fn size_operand(tree: &[u8], text: &[u8], e: usize) -> Result<Operand, ConvertEr
 {
     match size(tree, reference(tree, e, WORD_A)) {
         Bytes::Exactly(n) => Ok(Operand::Int(n, false, false)),
-        Bytes::Over => Err(error_at(ConvertErrorKind::WouldPanic, e)),
-        Bytes::Nothing => Err(error_at(ConvertErrorKind::WouldPanic, e)),
+        Bytes::Over | Bytes::Nothing => Err(error_at(ConvertErrorKind::WouldPanic, e)),
     }
 }
 

@@ -15,7 +15,7 @@ ghost use Rattle.statements.specs.Converting.{Converting, RoomFor, OperandIn, Af
 ghost use Rattle.statements.specs.Lent.{at, converted, stated, finished_with};
 ghost use Rattle.statements.specs.Meets.{Adds};
 ghost use Rattle.statements.specs.Parts.{copy_fitted, zero_float};
-ghost use Rattle.statements.specs.Answers.{ZeroMeets, givens, given, ConvertsAs, StatesAs, CallOnlyAs, DeclaresAs, cond_steps, declare_steps, init_steps, init_new_steps, assign_steps, assign_to_steps, return_steps, return_as_steps, call_statement_steps, call_only_steps, break_steps, continue_steps, declare_init_steps};
+ghost use Rattle.statements.specs.Answers.{ZeroMeets, givens, given, ConvertsAs, StatesAs, CallOnlyAs, DeclaresAs, cond_steps, declare_steps, init_steps, init_new_steps, assign_steps, assign_to_steps, return_steps, return_as_steps, call_statement_steps, call_only_steps, break_steps, continue_steps, loop_jump_steps, declare_init_steps};
 ghost use Rattle.statements.specs.Turns.{InTurn, no_types, call_only_types, value_types, assign_types, init_types, head_types, return_as_types, own_types, ConvertsTyped, StatesTyped};
 
 use crate::answers::{Converter, error_at};
@@ -35,7 +35,7 @@ use records::numbers::{
     KIND_CALL, NULL_TYPE,
 };
 use records::words::{NONE, WORD_A, WORD_C, WORD_D, detail, kind, reference, word};
-use scope::Scope;
+use scope::{Known, Scope};
 use types::form::{form, is_short, is_unsigned};
 
 // The operand of the condition e, which must be a Bool.
@@ -183,19 +183,18 @@ fn convert_assign(
     k: &mut [usize],
     c: Converter,
     r: usize,
-    v: VarId,
-    constant: bool,
+    known: Known,
 ) -> Result<Scope, ConvertError>
     requires converting { Converting tree.now text.now arena.old scratch.old (at c k.old) × BehindAfforded tree.now text.now (at c k.old) r }
-    requires kind { IsKind tree.now kind_init r × TypeAt tree.now v.1 }
+    requires kind { IsKind tree.now kind_init r × TypeAt tree.now known.var.1 }
     requires in_turn { InTurn tree.now text.now scratch.old (at c k.old) }
-    ensures states_as { StatesAs (givens assign_steps v constant) (at c k.old) r tree.now text.now arena.old scratch.old (stated k.new result) arena.new scratch.new }
+    ensures states_as { StatesAs (givens assign_steps known.var known.constant) (at c k.old) r tree.now text.now arena.old scratch.old (stated k.new result) arena.new scratch.new }
     ensures types { StatesTyped assign_types (at c k.old) r tree.now text.now scratch.old (stated k.new result) scratch.new }
 {
-    if constant {
+    if known.constant {
         return Err(error_at(ConvertErrorKind::AssignToConstant, r));
     }
-    assign_to(tree, text, arena, scratch, k, c, r, v)
+    assign_to(tree, text, arena, scratch, k, c, r, known.var)
 }
 
 // What a new variable of a value of type y has as its type: an address to nothing for Null.
@@ -280,17 +279,7 @@ pub(crate) fn convert_init(
         return init_new(tree, text, arena, scratch, k, c, r);
     }
     match find_name(tree, text, scratch, scope, r) {
-        Some(known) => convert_assign(
-            tree,
-            text,
-            arena,
-            scratch,
-            k,
-            c,
-            r,
-            known.var,
-            known.constant,
-        ),
+        Some(known) => convert_assign(tree, text, arena, scratch, k, c, r, known),
         None => init_new(tree, text, arena, scratch, k, c, r),
     }
 }
@@ -421,6 +410,30 @@ pub(crate) fn convert_call(
     Ok(scope)
 }
 
+// A jump to the label of this kind of the innermost loop; outside of all loops it is refused.
+fn jump_in_loop(
+    tree: &[u8],
+    text: &[u8],
+    arena: &mut [u8],
+    scratch: &[u8],
+    k: &mut [usize],
+    c: Converter,
+    r: usize,
+    kind: LabelKind,
+    outside: ConvertErrorKind,
+) -> Result<Scope, ConvertError>
+    requires converting { Converting tree.now text.now arena.old scratch.now (at c k.old) × BehindAfforded tree.now text.now (at c k.old) r }
+    requires r_bound { r < 4294967296 }
+    ensures { StatesAs (givens loop_jump_steps kind outside) (at c k.old) r tree.now text.now arena.old scratch.now (stated k.new result) arena.new scratch.now }
+{
+    let scope = c.scope;
+    let Some(l) = scope.in_loop() else {
+        return Err(error_at(outside, r));
+    };
+    jump(arena, k, kind, l as usize);
+    Ok(scope)
+}
+
 // The Break r goes to the end of the innermost loop.
 pub(crate) fn convert_break(
     tree: &[u8],
@@ -435,12 +448,18 @@ pub(crate) fn convert_break(
     requires kind { IsKind tree.now kind_break r }
     ensures { StatesAs break_steps (at c k.old) r tree.now text.now arena.old scratch.now (stated k.new result) arena.new scratch.now }
 {
-    let scope = c.scope;
-    let Some(l) = scope.in_loop() else {
-        return Err(error_at(ConvertErrorKind::BreakOutOfLoop, r));
-    };
-    jump(arena, k, LabelKind::LoopEnd, l as usize);
-    Ok(scope)
+    let outside = ConvertErrorKind::BreakOutOfLoop;
+    jump_in_loop(
+        tree,
+        text,
+        arena,
+        scratch,
+        k,
+        c,
+        r,
+        LabelKind::LoopEnd,
+        outside,
+    )
 }
 
 // The Continue r goes to the start of the innermost loop, which for a For is where it counts on.
@@ -457,10 +476,16 @@ pub(crate) fn convert_continue(
     requires kind { IsKind tree.now kind_continue r }
     ensures { StatesAs continue_steps (at c k.old) r tree.now text.now arena.old scratch.now (stated k.new result) arena.new scratch.now }
 {
-    let scope = c.scope;
-    let Some(l) = scope.in_loop() else {
-        return Err(error_at(ConvertErrorKind::ContinueOutOfLoop, r));
-    };
-    jump(arena, k, LabelKind::LoopStart, l as usize);
-    Ok(scope)
+    let outside = ConvertErrorKind::ContinueOutOfLoop;
+    jump_in_loop(
+        tree,
+        text,
+        arena,
+        scratch,
+        k,
+        c,
+        r,
+        LabelKind::LoopStart,
+        outside,
+    )
 }
