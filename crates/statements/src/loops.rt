@@ -145,9 +145,8 @@ fn for_declared(
     ensures variable_as { VariableAs for_variable_steps (at c k.old) r tree.now text.now arena.old scratch.old (found_variable k.new result) arena.new scratch.new }
     ensures types { VariableTyped (at c k.old) tree.now text.now scratch.old (found_variable k.new result) scratch.new }
 {
-    let scope = c.scope;
     let x = new_var(arena, k, word(tree, v, WORD_C));
-    let Some(next) = declare_name(tree, text, scratch, scope, v, x, false) else {
+    let Some(next) = declare_name(tree, text, scratch, c.scope, v, x, false) else {
         return Err(error_at(ConvertErrorKind::AlreadyDeclared, r));
     };
     Ok(ForVariable {
@@ -169,8 +168,7 @@ fn for_known(
     requires kind { IsKind tree.now kind_for r × (v ≡ word_of tree.now r Words.A) × (word_of tree.now v Words.C ≡ Words.none) }
     ensures { VariableStays for_variable_steps c r tree.now text.now scratch.now result }
 {
-    let scope = c.scope;
-    let Some(known) = find_name(tree, text, scratch, scope, v) else {
+    let Some(known) = find_name(tree, text, scratch, c.scope, v) else {
         return Err(error_at(ConvertErrorKind::UnknownVariable, r));
     };
     if known.constant {
@@ -178,7 +176,7 @@ fn for_known(
     }
     Ok(ForVariable {
         var: known.var,
-        scope,
+        scope: c.scope,
     })
 }
 
@@ -219,8 +217,7 @@ fn check_bound(
     ensures by_index_2 { (k : List ℕ) → Checks tree.now (bound_steps tree.now text.now scratch.old (at c k) e y) scratch.old result scratch.new }
     ensures types { (k : List ℕ) → ChecksTyped bound_types (at c k) e tree.now text.now scratch.old result scratch.new }
 {
-    let scope = c.scope;
-    let q = get_type(tree, text, scratch, scope, c.turn, e)?;
+    let q = get_type(tree, text, scratch, c.scope, c.turn, e)?;
     check_fits(tree, e, q, y, ConvertErrorKind::NotInteger, e)
 }
 

@@ -124,8 +124,7 @@ pub(crate) fn operand_type(
     ensures by_index_2 { (k : List ℕ) → OperandTyped tree.now text.now scratch.old (at c k) e y result scratch.new }
     ensures types { (k : List ℕ) → CommonTyped (at c k) e tree.now text.now scratch.old result scratch.new }
 {
-    let scope = c.scope;
-    Ok(common_type(tree, text, scratch, scope, c.turn, e)?.unwrap_or(y))
+    Ok(common_type(tree, text, scratch, c.scope, c.turn, e)?.unwrap_or(y))
 }
 
 // Any Binary but And and Or, behind its sides: both are fitted to q, then the operator goes into a new variable of type y.
