@@ -22,12 +22,11 @@ use Rattle.syntax.specs.Places.{IsKind, TypeAt, statement_at}
 use Rattle.syntax.proofs.Records.{statement_declare}
 use Rattle.conversion.specs.ConvertError.{ConvertErrorKind, ok, err, AlreadyDeclared, BreakOutOfLoop, ContinueOutOfLoop, WouldPanic}
 use Rattle.conversion.specs.Ir as Ir
-use Rattle.conversion.specs.Ir.{FloatEntry, LabelName, M, ◌>>=◌, ◌>>◌, pure, fail, lift, new_var}
+use Rattle.conversion.specs.Ir.{FloatEntry, M, ◌>>=◌, ◌>>◌, pure, fail, lift, new_var}
 use Rattle.conversion.specs.Scope as Def
 use Rattle.conversion.specs.Scope.{Variable, find_in, declare}
 use Rattle.conversion.specs.Expressions.{Functions}
-use Rattle.conversion.specs.Statements.{zero_value, convert_declare, convert_break, convert_continue}
-use Rattle.conversion.proofs.MonadLaws.{regroup, seq_is}
+use Rattle.conversion.specs.Statements.{zero_value, convert_declare}
 use Rattle.types.specs.Fits.{IsType}
 use Rattle.ir.specs.declared.structs.Counters.{Counters}
 use Rattle.ir.specs.declared.structs.NewVariable.{NewVariable}
@@ -35,7 +34,6 @@ use Rattle.ir.specs.declared.structs.Operand.{Operand}
 use Rattle.ir.specs.declared.structs.VarId.{VarId}
 use Rattle.ir.specs.declared.pool.PoolNumber.{PoolNumber}
 use Rattle.ir.specs.Amounts.{Amount, amount, both}
-use Rattle.ir.specs.Arena.{HasSlot}
 use Rattle.ir.specs.Floats.{entry}
 use Rattle.ir.specs.Instructions.{var_of, operand_of}
 use Rattle.ir.specs.Steps.{Next, Emits, AddsVar, NumbersFloat, named}
@@ -51,13 +49,17 @@ use Rattle.expressions.proofs.OriginalLaws.{origin_text, kind-asked}
 use Rattle.expressions.proofs.TakeLaws.{as_type}
 use Rattle.statements.specs.Lent.{Converter, Stated, Finished}
 use Rattle.statements.specs.Meets.{StepAnswer, gave, refused, Adds, Meets, texts_of}
-use Rattle.statements.specs.Converting.{Converting, RoomFor, BehindAfforded, StaysFor, behind_amount}
-use Rattle.statements.specs.Parts.{emit_jump, zero_float}
-use Rattle.statements.specs.Answers.{finished_of, Leaves, States, StatesAs, declare_steps, break_steps, continue_steps}
+use Rattle.statements.specs.Converting.{Converting, RoomFor, BehindAfforded, StaysFor}
+use Rattle.statements.specs.declared.numbers.LabelKind.{LabelKind}
+use Rattle.statements.specs.declared.numbers.LabelKind.TheVariants.{LoopStart, LoopEnd}
+use Rattle.statements.specs.Labels.{label_number}
+use Rattle.statements.specs.Parts.{emit_jump, loop_jump, zero_float}
+use Rattle.statements.specs.Answers.{finished_of, Leaves, StatesAs, declare_steps, break_steps, continue_steps, loop_jump_steps}
 use Rattle.statements.specs.Turns.{InTurn, TypedIn, TurnsStay}
 use Rattle.statements.proofs.MeetLaws.{adds_in, adds_then, adds_seq, adds-pure, adds-most, adds_same, meets-gave, meets-refused, meets-same, meets_then, meets-lift}
 use Rattle.statements.proofs.AddedLaws.{added-stays, added-turns, added-ready}
 use Rattle.statements.proofs.StayLaws.{stays_refl}
+use Rattle.statements.proofs.PartLaws.{break_parts, continue_parts}
 use Rattle.statements.proofs.TurnLaws.{stay_typed}
 use Rattle.statements.proofs.FitLaws.{forms, type-is}
 use Rattle.statements.proofs.EmitLaws.{emit-adds, var_adds}
@@ -332,55 +334,43 @@ module _ {tree text l s : List ℕ} {c : Converter} (p : Converting tree text l 
             (states_gave n.long (n.gives (scope_at tree text s' sc') k refl)
             (declared_leaves p made.var declare-few (var_typed p long newly declare-few declare-type) r declare-asked false s' m q) name_stayed)
 
--- ---- the Break or Continue r
-
--- a jump that leaves the scope
-jumps_on : (n : LabelName) (S : Def.Scope) → emit_jump n >> pure S ≡ Ir.label_id n >>= (λ (i : ℕ). Ir.emit (Ir.Jump i) >> pure S)
-unfolding emit_jump
-jumps_on n S = simp (seq_is, regroup)
+-- ---- the Break or Continue r: the jump of either, which leaves the scope
 
 module _ {tree text l s : List ℕ} {c : Converter} (p : Converting tree text l s c) (r : ℕ) where
   abbrev scope : Def.Scope
   scope = scope_at tree text s c.scope
 
-  outside-stops : {z : ConvertError} {steps : M Def.Scope} {kind : ConvertErrorKind} → steps ≡ fail kind r → z ≡ record { kind = kind; place = r }
-      → States tree text steps (behind_amount (statement_records (statement_at tree text r))) (statement_records (statement_at tree text r)) c l s (Stated.Refused z) l s
-  outside-stops {kind = kind} e w =
-      states_same (sym e) (states_refused refl (rw w (fail-stops (texts_of tree text) c.counters l kind r)) (stays_refl tree c.scope.names c.operands s))
+  -- a Break or Continue is its jump
+  pub break_states : {a : Stated} {l' s' : List ℕ} → StatesAs (λ t u i d j. loop_jump_steps t u i d j LoopEnd BreakOutOfLoop) c r tree text l s a l' s'
+      → StatesAs break_steps c r tree text l s a l' s'
+  break_states i = states_same (sym (break_parts (program tree text) (all_keys tree text) r scope.in_loop scope)) i
 
-  jump_states : {k : Counters} {l' : List ℕ} {steps : M Def.Scope} (n : LabelName) → steps ≡ Ir.label_id n >>= (λ (i : ℕ). Ir.emit (Ir.Jump i) >> pure scope)
-      → Adds (emit_jump n) (amount 1 0 1 0 0) c.counters l tt k l'
-      → States tree text steps (behind_amount (statement_records (statement_at tree text r))) (statement_records (statement_at tree text r)) c l s (Stated.Done c.scope k) l' s
-  jump_states {k = k} {l' = l'} n e a =
-      let stays = stays_refl tree c.scope.names c.operands s in
-      states_same (jumps_on n scope ∙ sym e)
-      (states_gave a.long (adds_in (texts_of tree text) (adds-most (adds_seq (pure scope) a (adds-pure scope k l' a.next.room)) (omega arith))) (leaves-same p stays) stays)
+  pub continue_states : {a : Stated} {l' s' : List ℕ} → StatesAs (λ t u i d j. loop_jump_steps t u i d j LoopStart ContinueOutOfLoop) c r tree text l s a l' s'
+      → StatesAs continue_steps c r tree text l s a l' s'
+  continue_states i = states_same (sym (continue_parts (program tree text) (all_keys tree text) r scope.in_loop scope)) i
 
   module _ (o : Std.Option ℕ) (m : loop_of o ≡ loop_number c.scope.inner) where
     loop-is : {x : Option ℕ} → loop_of o ≡ x → scope.in_loop ≡ x
     loop-is q = in_loop_lem tree text s c.scope o m ∙ q
 
     -- what the jump asks: the loop is one of the records that the tables count
-    pub jump_asks : {x : ℕ} (kind : ℕ) → 1 ≤ kind → kind ≤ 7 → BehindAfforded tree text c r → o ≡ Some x
-        → RoomFor c.counters l (amount 1 0 1 0 0) × HasSlot c.counters.records (named kind x)
-    jump_asks {x = x} kind least most f q =
+    pub jump_asks : {x : ℕ} → BehindAfforded tree text c r → o ≡ Some x → RoomFor c.counters l (amount 1 0 1 0 0) × (x < c.counters.records)
+    jump_asks {x = x} f q =
         let h : x < records tree = p.loop x (sym m ∙ ap loop_of q) in
         (record { room = p.room; affords = omega (arith, f.tables) }, omega (arith, p.records_are))
 
-    pub break_outside : {z : ConvertError} → o ≡ None → z ≡ record { kind = BreakOutOfLoop; place = r } → StatesAs break_steps c r tree text l s (Stated.Refused z) l s
-    unfolding convert_break
-    break_outside q w = outside-stops (rw (loop-is (ap loop_of q))) w
+    module _ (kind : LabelKind) (outside : ConvertErrorKind) where
+      pub jump_outside : {z : ConvertError} → o ≡ None → z ≡ record { kind = outside; place = r }
+          → StatesAs (λ t u i d j. loop_jump_steps t u i d j kind outside) c r tree text l s (Stated.Refused z) l s
+      unfolding loop_jump
+      jump_outside q w =
+          states_same {m = fail outside r} (rw (loop-is (ap loop_of q)))
+          (states_refused refl (rw w (fail-stops (texts_of tree text) c.counters l outside r)) (stays_refl tree c.scope.names c.operands s))
 
-    pub break_jumps : {x : ℕ} {k : Counters} {l' : List ℕ} → o ≡ Some x → Adds (emit_jump (named 2 x)) (amount 1 0 1 0 0) c.counters l tt k l'
-        → StatesAs break_steps c r tree text l s (Stated.Done c.scope k) l' s
-    unfolding convert_break
-    break_jumps {x = x} q a = jump_states (named 2 x) (rw (loop-is (ap loop_of q))) a
-
-    pub continue_outside : {z : ConvertError} → o ≡ None → z ≡ record { kind = ContinueOutOfLoop; place = r } → StatesAs continue_steps c r tree text l s (Stated.Refused z) l s
-    unfolding convert_continue
-    continue_outside q w = outside-stops (rw (loop-is (ap loop_of q))) w
-
-    pub continue_jumps : {x : ℕ} {k : Counters} {l' : List ℕ} → o ≡ Some x → Adds (emit_jump (named 1 x)) (amount 1 0 1 0 0) c.counters l tt k l'
-        → StatesAs continue_steps c r tree text l s (Stated.Done c.scope k) l' s
-    unfolding convert_continue
-    continue_jumps {x = x} q a = jump_states (named 1 x) (rw (loop-is (ap loop_of q))) a
+      pub jump_states : {x : ℕ} {k : Counters} {l' : List ℕ} → o ≡ Some x → Adds (emit_jump (named (label_number kind) x)) (amount 1 0 1 0 0) c.counters l tt k l'
+          → StatesAs (λ t u i d j. loop_jump_steps t u i d j kind outside) c r tree text l s (Stated.Done c.scope k) l' s
+      unfolding loop_jump
+      jump_states {x = x} {k = k} {l' = l'} q a =
+          let stays = stays_refl tree c.scope.names c.operands s in
+          states_same {m = emit_jump (named (label_number kind) x) >> pure scope} (rw (loop-is (ap loop_of q)))
+          (states_gave a.long (adds_in (texts_of tree text) (adds-most (adds_seq (pure scope) a (adds-pure scope k l' a.next.room)) (omega arith))) (leaves-same p stays) stays)

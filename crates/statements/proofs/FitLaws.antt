@@ -3,6 +3,7 @@
 use Rattle.std.specs.Prelude.{Ok, Err}
 use mathlib.Core.Path.{◌≡◌, refl, sym, ap, ◌∙◌, subst}
 use mathlib.Core.Bool.{Bool, true, false, not, ◌&&◌}
+use mathlib.Core.Logic.{◌⊎◌, inl, inr}
 use mathlib.Core.List.{List, [], ◌∷◌}
 use Prim.Native.Nat.{ℕ, zero, suc, ◌%◌}
 use native.Mathlib.Omega.{arith}
@@ -209,20 +210,12 @@ module _ {tree : List ℕ} (text : List ℕ) {k : Counters} {l : List ℕ} (o : 
 
   -- one that is fitted to every type
   module _ (room : Room k l) where
-    pub bool-fits : (b : Bool) → o ≡ Operand.Bool b
+    pub plain-fits : ((b : Bool) × (o ≡ Operand.Bool b)) ⊎ (((i : ℕ) × (o ≡ Operand.DataAddress i)) ⊎ (o ≡ Operand.Null))
         → FitAdds tree (fit_operand (program tree text) (operand_of o) y) (amount 1 1 0 0 1) k l (record { operand = o; counters = k }) l
     unfolding fit_operand OperandIn
-    bool-fits b e = rw e (stays_as (Operand.Bool b) refl tt room)
-
-    pub string_fits : (i : ℕ) → o ≡ Operand.DataAddress i
-        → FitAdds tree (fit_operand (program tree text) (operand_of o) y) (amount 1 1 0 0 1) k l (record { operand = o; counters = k }) l
-    unfolding fit_operand OperandIn
-    string_fits i e = rw e (stays_as (Operand.DataAddress i) refl tt room)
-
-    pub null_fits : o ≡ Operand.Null
-        → FitAdds tree (fit_operand (program tree text) (operand_of o) y) (amount 1 1 0 0 1) k l (record { operand = o; counters = k }) l
-    unfolding fit_operand OperandIn
-    null_fits e = rw e (stays_as Operand.Null refl tt room)
+    plain-fits (inl b) = rw b.1 (stays_as (Operand.Bool b.0) refl tt room)
+    plain-fits (inr (inl i)) = rw i.1 (stays_as (Operand.DataAddress i.0) refl tt room)
+    plain-fits (inr (inr e)) = rw e (stays_as Operand.Null refl tt room)
 
 -- a variable that is one of the operands
 pub variable_in_lem : (tree : List ℕ) (o : Operand) (v : VarId) → o ≡ Operand.Var v → OperandIn tree (operand_of o) → TypeAt tree v.1

@@ -4,6 +4,7 @@ use Rattle.std.specs.Prelude as Std
 use Rattle.std.specs.Prelude.{Ok, Some, None}
 use mathlib.Core.Path.{◌≡◌, refl, sym, ap, ap₂, ◌∙◌, subst}
 use mathlib.Core.Bool.{Bool, true, false}
+use mathlib.Core.Logic.{◌⊎◌, inl, inr}
 use mathlib.Core.List.{List}
 use mathlib.Core.Option.{Option, none, some}
 use Prim.Native.Nat.{ℕ, ◌+◌, ◌*◌, ◌/◌, ◌%◌, ◌^◌, ◌≤◌, ◌<◌}
@@ -207,13 +208,10 @@ exact-small n (some k) q = go (ltb k (2 ^ 63)) refl q
     go true h z = let w : n ≡ k = cc in omega (arith, ltb-true k (2 ^ 63) h)
     go false h z = let w : ◌≡◌ {A = ℕ} 0 1 = cc in absurd (omega arith)
 
-pub over_none : (b : Bytes) → b ≡ Bytes.Over → exact_bytes b ≡ none
+pub no_bytes : (b : Bytes) → (b ≡ Bytes.Over) ⊎ (b ≡ Bytes.Nothing) → exact_bytes b ≡ none
 unfolding exact_bytes
-over_none b q = rw q
-
-pub nothing_none : (b : Bytes) → b ≡ Bytes.Nothing → exact_bytes b ≡ none
-unfolding exact_bytes
-nothing_none b q = rw q
+no_bytes b (inl q) = rw q
+no_bytes b (inr q) = rw q
 
 pub size-inside : {tree text : List ℕ} {e y : ℕ} → Good tree text → IsKind tree 8 e → y ≡ word_of tree e A → y * 32 + 32 ≤ length tree
 size-inside {tree = tree} {text = text} {e = e} {y = y} good is ey =

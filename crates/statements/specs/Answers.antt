@@ -17,12 +17,14 @@ use Rattle.conversion.specs.Scope.{with_loop}
 use Rattle.conversion.specs.Expressions.{Functions, Callee, CallFunction}
 use Rattle.conversion.specs.Statements.{zero_value, fit_operand, check_bound, parameter_type, value_position, expected_type, fit_args, cast_first, call_value, convert_unary, convert_and, convert_or, convert_other, convert_binary, convert_call_value, convert_expr, convert_args, convert_cond, call_function, convert_declare, convert_init, init_new, convert_assign, assign_to, convert_return, return_as, convert_call, convert_break, convert_continue, convert_if, convert_if_else, convert_while_loop, convert_for_loop, convert_statement, convert_block}
 use Rattle.records.specs.declared.convert_error.ConvertError.{ConvertError}
+use Rattle.records.specs.declared.convert_error.ConvertErrorKind.{ConvertErrorKind}
 use Rattle.ir.specs.declared.structs.Counters.{Counters}
 use Rattle.ir.specs.declared.structs.VarId.{VarId}
 use Rattle.ir.specs.declared.structs.Operand.{Operand}
 use Rattle.ir.specs.Instructions.{operand_of, var_of}
 use Rattle.ir.specs.Amounts.{Amount, amount, both}
 use Rattle.ir.specs.Arena.{Room}
+use Rattle.ir.specs.Steps.{named}
 use Rattle.scope.specs.declared.Scope.{Scope}
 use Rattle.scope.specs.Open.{scope_at}
 use Rattle.keys.specs.Keys.{all_keys}
@@ -32,8 +34,10 @@ use Rattle.statements.specs.Lent.{Converter, Converted, ConvertedArgs, Stated, F
 use Rattle.statements.specs.declared.answers.Converter as Code-Converter
 use Rattle.statements.specs.declared.answers.ForVariable as Code-ForVariable
 use Rattle.statements.specs.declared.answers.AtValue.{AtValue}
+use Rattle.statements.specs.declared.numbers.LabelKind.{LabelKind}
+use Rattle.statements.specs.Labels.{label_number}
 use Rattle.statements.specs.Meets.{StepAnswer, gave, refused, Adds, AddsIn, Meets, texts_of}
-use Rattle.statements.specs.Parts.{operand_type, join_and, join_or, finish_binary, count_on, if_head, while_head, for_variable, for_bounds, for_begin, for_test, for_turns, for_head, declare_init, pass_args, finish_call}
+use Rattle.statements.specs.Parts.{operand_type, join_and, join_or, finish_binary, count_on, if_head, while_head, for_variable, for_bounds, for_begin, for_test, for_turns, for_head, declare_init, loop_jump, pass_args, finish_call}
 use Rattle.statements.specs.Stack.{stack_at}
 use Rattle.syntax.specs.Count.{under, statement_records, block_records, args_under, args_values}
 use Rattle.statements.specs.Converting.{Converting, Afforded, OperandIn, StackIn, StaysFor, NamesStay, expr_amount, args_amount, behind_amount, statement_amount, block_amount, head_amount, turns_amount, for_head_amount}
@@ -222,6 +226,10 @@ module _ (tree text s : List ℕ) (c : Converter) where
 
   abbrev pub continue_steps : ℕ → M Def.Scope
   continue_steps r = convert_continue (program tree text) (all_keys tree text) r scope_in.in_loop scope_in
+
+  -- the jump of either, to a label of this kind, and how it is refused
+  abbrev pub loop_jump_steps : ℕ → LabelKind → ConvertErrorKind → M Def.Scope
+  loop_jump_steps r kind e = loop_jump (named (label_number kind)) e r scope_in.in_loop scope_in
 
   abbrev pub if_steps : ℕ → M Def.Scope
   if_steps r = pick (bit 1 (detail_of tree r))

@@ -91,11 +91,12 @@ fn convert_statement(
     ensures statement_as { StatementAs statement_steps (at c k.old) r tree.now text.now arena.old scratch.old (stated k.new result) arena.new scratch.new }
     ensures visits { StatementVisited r tree.now text.now scratch.old (stated k.new result) scratch.new }
 {
-    let scope = c.scope;
     let node = kind(tree, r);
     emit_comment(arena, k, r as u32);
-    let mut at = c;
-    at.turn = k[COUNT_INSTRUCTIONS] as u32;
+    let at = Converter {
+        turn: k[COUNT_INSTRUCTIONS] as u32,
+        ..c
+    };
     if node <= KIND_CALL_STATEMENT {
         return convert_plain(tree, text, arena, scratch, k, at, r);
     }
@@ -104,14 +105,14 @@ fn convert_statement(
     }
     if node == KIND_IF {
         convert_if(tree, text, arena, scratch, k, at, r)?;
-        return Ok(scope);
+        return Ok(c.scope);
     }
     if node == KIND_WHILE {
         convert_while_loop(tree, text, arena, scratch, k, at, r)?;
-        return Ok(scope);
+        return Ok(c.scope);
     }
     convert_for_loop(tree, text, arena, scratch, k, at, r)?;
-    Ok(scope)
+    Ok(c.scope)
 }
 
 // The block whose first cell this is, in a scope of its own.
@@ -187,13 +188,13 @@ fn convert_while_loop(
     ensures finishes_as { FinishesAs while_steps (at c k.old) r tree.now text.now arena.old scratch.old (finished_with k.new result) arena.new scratch.new }
     ensures visits { FinishedVisited r tree.now text.now scratch.old (finished_with k.new result) scratch.new }
 {
-    let scope = c.scope;
-    let inner = scope.with_loop(r as u32);
+    let inner = Converter {
+        scope: c.scope.with_loop(r as u32),
+        ..c
+    };
     let body = reference(tree, r, WORD_B);
     while_head(tree, text, arena, scratch, k, c, r)?;
-    let mut at = c;
-    at.scope = inner;
-    convert_block(tree, text, arena, scratch, k, at, body)?;
+    convert_block(tree, text, arena, scratch, k, inner, body)?;
     loop_end(arena, k, r);
     Ok(())
 }
@@ -217,10 +218,11 @@ fn convert_for_loop(
 {
     let body = reference(tree, r, WORD_D);
     let scope = for_head(tree, text, arena, scratch, k, c, r)?;
-    let inner = scope.with_loop(r as u32);
-    let mut at = c;
-    at.scope = inner;
-    convert_block(tree, text, arena, scratch, k, at, body)?;
+    let inner = Converter {
+        scope: scope.with_loop(r as u32),
+        ..c
+    };
+    convert_block(tree, text, arena, scratch, k, inner, body)?;
     loop_end(arena, k, r);
     Ok(())
 }

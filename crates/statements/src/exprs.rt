@@ -39,12 +39,11 @@ pub(crate) fn convert_expr(
     ensures converts_as { ConvertsAs expr_steps (at c k.old) e tree.now text.now arena.old scratch.old (converted k.new result) arena.new scratch.new }
     ensures types { ConvertsTyped expr_types (at c k.old) e tree.now text.now scratch.old (converted k.new result) scratch.new }
 {
-    let scope = c.scope;
     let node = kind(tree, e);
     if node <= KIND_SIZE_OF {
         return operand(tree, text, arena, scratch, k, c, e);
     }
-    let y = get_type(tree, text, scratch, scope, c.turn, e)?;
+    let y = get_type(tree, text, scratch, c.scope, c.turn, e)?;
     if node == KIND_UNARY {
         return convert_unary(tree, text, arena, scratch, k, c, e, y);
     }
@@ -175,8 +174,7 @@ fn convert_call_value(
     ensures converts_as { ConvertsAs (given call_steps y) (at c k.old) e tree.now text.now arena.old scratch.old (converted k.new result) arena.new scratch.new }
     ensures types { ConvertsTyped call_types (at c k.old) e tree.now text.now scratch.old (converted k.new result) scratch.new }
 {
-    let scope = c.scope;
-    let callee = resolve_call(tree, text, scratch, scope, c.turn, e)?;
+    let callee = resolve_call(tree, text, scratch, c.scope, c.turn, e)?;
     let count = convert_args(tree, text, arena, scratch, k, c, e)?;
     finish_call(tree, text, arena, scratch, k, c, e, y, callee, count)
 }

@@ -109,9 +109,7 @@ pub(crate) fn fit_operand(
         Operand::Var(v) => fit_variable(tree, arena, k, v, expected),
         Operand::Float(i) => fit_float(tree, arena, k, i, expected),
         Operand::Int(bits, _, _) => fit_int(tree, o, bits, expected),
-        Operand::Bool(_) => o,
-        Operand::DataAddress(_) => o,
-        Operand::Null => o,
+        Operand::Bool(_) | Operand::DataAddress(_) | Operand::Null => o,
     }
 }
 

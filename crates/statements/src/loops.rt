@@ -12,6 +12,7 @@ ghost use Rattle.ir.specs.Counted.{counted};
 ghost use Rattle.ir.specs.Instructions.{operand_of, var_of};
 ghost use Rattle.expressions.specs.Slots.{Ready};
 ghost use Rattle.statements.specs.Converting.{Converting, RoomFor, OperandIn, BehindAfforded, BoundAfforded};
+ghost use Rattle.statements.specs.Labels.{label_number};
 ghost use Rattle.statements.specs.Lent.{at, stated, finished_with, found_variable};
 ghost use Rattle.statements.specs.Meets.{Adds};
 ghost use Rattle.statements.specs.Parts.{if_middle, loop_back, test_bound, place_label};
@@ -22,7 +23,7 @@ use crate::answers::{Converter, ForVariable, error_at};
 use crate::exprs::convert_expr;
 use crate::fits::{check_fits, fit_operand};
 use crate::jumps::{jump, jump_if_not, place_label};
-use crate::numbers::{CONDITION_END, LOOP_CHECK, LOOP_END, LOOP_START, OTHERWISE};
+use crate::numbers::LabelKind;
 use crate::statements::{convert_cond, copy_fitted};
 use expressions::expressions::get_type;
 use expressions::names::{declare_name, find_name};
@@ -44,15 +45,15 @@ pub(crate) fn has_otherwise(tree: &[u8], r: usize) -> bool
 }
 
 // Where the If r goes when its condition does not hold.
-fn if_not_label(tree: &[u8], r: usize) -> u32
+fn if_not_label(tree: &[u8], r: usize) -> LabelKind
     requires record_bytes_in_bounds { r * record_bytes + record_bytes ≤ length tree.now }
     requires r_bound { detail_of tree.now r ≤ 1 }
-    ensures { result ≡ pick (bit 1 (detail_of tree.now r)) (otherwise_label r).kind (condition_end r).kind }
+    ensures { label_number result ≡ pick (bit 1 (detail_of tree.now r)) (otherwise_label r).kind (condition_end r).kind }
 {
     if has_otherwise(tree, r) {
-        return OTHERWISE;
+        return LabelKind::Otherwise;
     }
-    CONDITION_END
+    LabelKind::ConditionEnd
 }
 
 // The If r before its then-block.
@@ -83,8 +84,8 @@ pub(crate) fn if_middle(arena: &mut [u8], k: &mut [usize], r: usize)
     requires { RoomFor (counted k.old) arena.old (amount 2 0 2 0 0) × (r < (counted k.old).records) }
     ensures { Adds (if_middle r) (amount 2 0 2 0 0) (counted k.old) arena.old tt (counted k.new) arena.new }
 {
-    jump(arena, k, CONDITION_END, r);
-    place_label(arena, k, OTHERWISE, r);
+    jump(arena, k, LabelKind::ConditionEnd, r);
+    place_label(arena, k, LabelKind::Otherwise, r);
 }
 
 // Behind the last block of the If r.
@@ -92,7 +93,7 @@ pub(crate) fn if_end(arena: &mut [u8], k: &mut [usize], r: usize)
     requires { RoomFor (counted k.old) arena.old (amount 1 0 1 0 0) × (r < (counted k.old).records) }
     ensures { Adds (place_label (condition_end r)) (amount 1 0 1 0 0) (counted k.old) arena.old tt (counted k.new) arena.new }
 {
-    place_label(arena, k, CONDITION_END, r);
+    place_label(arena, k, LabelKind::ConditionEnd, r);
 }
 
 // The While r before its body.
@@ -112,9 +113,9 @@ pub(crate) fn while_head(
     ensures types { FinishesTyped head_types (at c k.old) r tree.now text.now scratch.old (finished_with k.new result) scratch.new }
 {
     let e = reference(tree, r, WORD_A);
-    place_label(arena, k, LOOP_START, r);
+    place_label(arena, k, LabelKind::LoopStart, r);
     let cond = convert_cond(tree, text, arena, scratch, k, c, e)?;
-    jump_if_not(arena, k, cond, LOOP_END, r);
+    jump_if_not(arena, k, cond, LabelKind::LoopEnd, r);
     Ok(())
 }
 
@@ -123,8 +124,8 @@ pub(crate) fn loop_end(arena: &mut [u8], k: &mut [usize], r: usize)
     requires { RoomFor (counted k.old) arena.old (amount 2 0 2 0 0) × (r < (counted k.old).records) }
     ensures { Adds (loop_back r) (amount 2 0 2 0 0) (counted k.old) arena.old tt (counted k.new) arena.new }
 {
-    jump(arena, k, LOOP_START, r);
-    place_label(arena, k, LOOP_END, r);
+    jump(arena, k, LabelKind::LoopStart, r);
+    place_label(arena, k, LabelKind::LoopEnd, r);
 }
 
 // The For r that declares its variable, of record v, in the scope of its body.
@@ -144,9 +145,8 @@ fn for_declared(
     ensures variable_as { VariableAs for_variable_steps (at c k.old) r tree.now text.now arena.old scratch.old (found_variable k.new result) arena.new scratch.new }
     ensures types { VariableTyped (at c k.old) tree.now text.now scratch.old (found_variable k.new result) scratch.new }
 {
-    let scope = c.scope;
     let x = new_var(arena, k, word(tree, v, WORD_C));
-    let Some(next) = declare_name(tree, text, scratch, scope, v, x, false) else {
+    let Some(next) = declare_name(tree, text, scratch, c.scope, v, x, false) else {
         return Err(error_at(ConvertErrorKind::AlreadyDeclared, r));
     };
     Ok(ForVariable {
@@ -168,8 +168,7 @@ fn for_known(
     requires kind { IsKind tree.now kind_for r × (v ≡ word_of tree.now r Words.A) × (word_of tree.now v Words.C ≡ Words.none) }
     ensures { VariableStays for_variable_steps c r tree.now text.now scratch.now result }
 {
-    let scope = c.scope;
-    let Some(known) = find_name(tree, text, scratch, scope, v) else {
+    let Some(known) = find_name(tree, text, scratch, c.scope, v) else {
         return Err(error_at(ConvertErrorKind::UnknownVariable, r));
     };
     if known.constant {
@@ -177,7 +176,7 @@ fn for_known(
     }
     Ok(ForVariable {
         var: known.var,
-        scope,
+        scope: c.scope,
     })
 }
 
@@ -218,8 +217,7 @@ fn check_bound(
     ensures by_index_2 { (k : List ℕ) → Checks tree.now (bound_steps tree.now text.now scratch.old (at c k) e y) scratch.old result scratch.new }
     ensures types { (k : List ℕ) → ChecksTyped bound_types (at c k) e tree.now text.now scratch.old result scratch.new }
 {
-    let scope = c.scope;
-    let q = get_type(tree, text, scratch, scope, c.turn, e)?;
+    let q = get_type(tree, text, scratch, c.scope, c.turn, e)?;
     check_fits(tree, e, q, y, ConvertErrorKind::NotInteger, e)
 }
 
@@ -250,10 +248,10 @@ fn count_on(tree: &[u8], arena: &mut [u8], k: &mut [usize], r: usize, x: VarId)
 {
     let y = x.1 as usize;
     let one = Operand::Int(1, is_short(tree, y), is_unsigned(tree, y));
-    jump(arena, k, LOOP_CHECK, r);
-    place_label(arena, k, LOOP_START, r);
+    jump(arena, k, LabelKind::LoopCheck, r);
+    place_label(arena, k, LabelKind::LoopStart, r);
     emit_binary(arena, k, x, ADD, Operand::Var(x), one);
-    place_label(arena, k, LOOP_CHECK, r);
+    place_label(arena, k, LabelKind::LoopCheck, r);
 }
 
 // The For r up to its check: its variable gets the first bound.
@@ -288,7 +286,7 @@ fn test_bound(tree: &[u8], arena: &mut [u8], k: &mut [usize], r: usize, x: VarId
     let bound = fit_operand(tree, arena, k, until, x.1 as usize);
     let cond = new_var(arena, k, BOOL_TYPE as u32);
     emit_binary(arena, k, cond, LT, Operand::Var(x), bound);
-    jump_if_not(arena, k, Operand::Var(cond), LOOP_END, r);
+    jump_if_not(arena, k, Operand::Var(cond), LabelKind::LoopEnd, r);
 }
 
 // The check of the For r: its second bound is computed anew at each turn.

@@ -141,8 +141,7 @@ fn string_operand(
     requires affords { Affords (counted k.old) (amount 0 0 0 1 0) × IsKind tree.now kind_str e }
     ensures { LeafAdds tree.now text.now e (amount 0 0 0 1 0) (counted k.old) arena.old (fitted k.new result) arena.new }
 {
-    let scope = c.scope;
-    let o = original(scratch, scope.records, e);
+    let o = original(scratch, c.scope.records, e);
     let offset = word(tree, e, WORD_A);
     let len = word(tree, e, WORD_B);
     Operand::DataAddress(string_id(arena, k, o, offset, len))
@@ -159,8 +158,7 @@ fn name_operand(
     requires { Ready tree.now text.now scratch.now c.scope × IsKind tree.now kind_name e }
     ensures { LeafStays c e tree.now text.now scratch.now result }
 {
-    let scope = c.scope;
-    let Some(known) = find_name(tree, text, scratch, scope, e) else {
+    let Some(known) = find_name(tree, text, scratch, c.scope, e) else {
         return Err(error_at(ConvertErrorKind::UnknownVariable, e));
     };
     Ok(Operand::Var(known.var))
@@ -173,8 +171,7 @@ fn size_operand(tree: &[u8], text: &[u8], e: usize) -> Result<Operand, ConvertEr
 {
     match size(tree, reference(tree, e, WORD_A)) {
         Bytes::Exactly(n) => Ok(Operand::Int(n, false, false)),
-        Bytes::Over => Err(error_at(ConvertErrorKind::WouldPanic, e)),
-        Bytes::Nothing => Err(error_at(ConvertErrorKind::WouldPanic, e)),
+        Bytes::Over | Bytes::Nothing => Err(error_at(ConvertErrorKind::WouldPanic, e)),
     }
 }
 

@@ -18,12 +18,12 @@ ghost use Rattle.statements.specs.Turns.{InTurn, TurnsStay, CommonTyped};
 
 use crate::answers::{Converter, error_at};
 use crate::fits::{fit_operand, pass_args};
-use crate::jumps::{jump, jump_if_not, place_label};
-use crate::numbers::{LOGIC_END, LOGIC_RHS};
+use crate::jumps::{jump, jump_if_not, label, place_label};
+use crate::numbers::LabelKind;
 use crate::operands::operand_at;
 use expressions::answers::Callee;
 use expressions::expressions::common_type;
-use ir::lent::{label_id, new_var};
+use ir::lent::new_var;
 use ir::structs::{Operand, VarId, emit_binary, emit_call, emit_cast, emit_copy, emit_unary};
 use records::convert_error::{ConvertError, ConvertErrorKind};
 use records::numbers::AND;
@@ -51,8 +51,8 @@ pub(crate) fn begin_logic(arena: &mut [u8], k: &mut [usize], e: usize, y: usize)
     ensures typed { result.1 ≡ y }
 {
     let dest = new_var(arena, k, y as u32);
-    label_id(arena, k, LOGIC_RHS, e as u32);
-    label_id(arena, k, LOGIC_END, e as u32);
+    label(arena, k, LabelKind::LogicRhs, e);
+    label(arena, k, LabelKind::LogicEnd, e);
     dest
 }
 
@@ -62,7 +62,7 @@ pub(crate) fn join_and(arena: &mut [u8], k: &mut [usize], e: usize, dest: VarId,
     ensures { Adds (join_and e (var_of dest) (operand_of left)) (amount 2 0 1 0 0) (counted k.old) arena.old tt (counted k.new) arena.new }
 {
     emit_copy(arena, k, dest, left);
-    jump_if_not(arena, k, Operand::Var(dest), LOGIC_END, e);
+    jump_if_not(arena, k, Operand::Var(dest), LabelKind::LogicEnd, e);
 }
 
 // Between the sides of Or.
@@ -71,9 +71,9 @@ pub(crate) fn join_or(arena: &mut [u8], k: &mut [usize], e: usize, dest: VarId, 
     ensures { Adds (join_or e (var_of dest) (operand_of left)) (amount 4 0 3 0 0) (counted k.old) arena.old tt (counted k.new) arena.new }
 {
     emit_copy(arena, k, dest, left);
-    jump_if_not(arena, k, Operand::Var(dest), LOGIC_RHS, e);
-    jump(arena, k, LOGIC_END, e);
-    place_label(arena, k, LOGIC_RHS, e);
+    jump_if_not(arena, k, Operand::Var(dest), LabelKind::LogicRhs, e);
+    jump(arena, k, LabelKind::LogicEnd, e);
+    place_label(arena, k, LabelKind::LogicRhs, e);
 }
 
 // What stands between the sides of the And or Or e: the left one is copied, and tested.
@@ -105,7 +105,7 @@ pub(crate) fn end_logic(
     ensures { (tree : List ℕ) → TypeAt tree dest.1 → FitAdds tree (end_logic e (var_of dest) (operand_of right)) (amount 2 0 1 0 0) (counted k.old) arena.old (fitted k.new result) arena.new }
 {
     emit_copy(arena, k, dest, right);
-    place_label(arena, k, LOGIC_END, e);
+    place_label(arena, k, LabelKind::LogicEnd, e);
     Operand::Var(dest)
 }
 
@@ -124,8 +124,7 @@ pub(crate) fn operand_type(
     ensures by_index_2 { (k : List ℕ) → OperandTyped tree.now text.now scratch.old (at c k) e y result scratch.new }
     ensures types { (k : List ℕ) → CommonTyped (at c k) e tree.now text.now scratch.old result scratch.new }
 {
-    let scope = c.scope;
-    Ok(common_type(tree, text, scratch, scope, c.turn, e)?.unwrap_or(y))
+    Ok(common_type(tree, text, scratch, c.scope, c.turn, e)?.unwrap_or(y))
 }
 
 // Any Binary but And and Or, behind its sides: both are fitted to q, then the operator goes into a new variable of type y.

@@ -15,14 +15,14 @@ ghost use Rattle.statements.specs.Converting.{Converting, RoomFor, OperandIn, Af
 ghost use Rattle.statements.specs.Lent.{at, converted, stated, finished_with};
 ghost use Rattle.statements.specs.Meets.{Adds};
 ghost use Rattle.statements.specs.Parts.{copy_fitted, zero_float};
-ghost use Rattle.statements.specs.Answers.{ZeroMeets, givens, given, ConvertsAs, StatesAs, CallOnlyAs, DeclaresAs, cond_steps, declare_steps, init_steps, init_new_steps, assign_steps, assign_to_steps, return_steps, return_as_steps, call_statement_steps, call_only_steps, break_steps, continue_steps, declare_init_steps};
+ghost use Rattle.statements.specs.Answers.{ZeroMeets, givens, given, ConvertsAs, StatesAs, CallOnlyAs, DeclaresAs, cond_steps, declare_steps, init_steps, init_new_steps, assign_steps, assign_to_steps, return_steps, return_as_steps, call_statement_steps, call_only_steps, break_steps, continue_steps, loop_jump_steps, declare_init_steps};
 ghost use Rattle.statements.specs.Turns.{InTurn, no_types, call_only_types, value_types, assign_types, init_types, head_types, return_as_types, own_types, ConvertsTyped, StatesTyped};
 
 use crate::answers::{Converter, error_at};
 use crate::exprs::{convert_args, convert_expr};
 use crate::fits::{check_fits, fit_operand, pass_args};
 use crate::jumps::jump;
-use crate::numbers::{LOOP_END, LOOP_START};
+use crate::numbers::LabelKind;
 use expressions::answers::Callee;
 use expressions::expressions::{get_type, resolve_call};
 use expressions::names::{declare_name, find_name};
@@ -35,7 +35,7 @@ use records::numbers::{
     KIND_CALL, NULL_TYPE,
 };
 use records::words::{NONE, WORD_A, WORD_C, WORD_D, detail, kind, reference, word};
-use scope::Scope;
+use scope::{Known, Scope};
 use types::form::{form, is_short, is_unsigned};
 
 // The operand of the condition e, which must be a Bool.
@@ -54,8 +54,7 @@ pub(crate) fn convert_cond(
     ensures converts_as { ConvertsAs cond_steps (at c k.old) e tree.now text.now arena.old scratch.old (converted k.new result) arena.new scratch.new }
     ensures types { ConvertsTyped value_types (at c k.old) e tree.now text.now scratch.old (converted k.new result) scratch.new }
 {
-    let scope = c.scope;
-    let y = get_type(tree, text, scratch, scope, c.turn, e)?;
+    let y = get_type(tree, text, scratch, c.scope, c.turn, e)?;
     if y == BOOL_TYPE {
         return convert_expr(tree, text, arena, scratch, k, c, e);
     }
@@ -130,9 +129,8 @@ pub(crate) fn convert_declare(
     ensures states_as { StatesAs declare_steps (at c k.old) r tree.now text.now arena.old scratch.old (stated k.new result) arena.new scratch.new }
     ensures types { StatesTyped no_types (at c k.old) r tree.now text.now scratch.old (stated k.new result) scratch.new }
 {
-    let scope = c.scope;
     let v = new_var(arena, k, word(tree, r, WORD_C));
-    let Some(next) = declare_name(tree, text, scratch, scope, r, v, false) else {
+    let Some(next) = declare_name(tree, text, scratch, c.scope, r, v, false) else {
         return Err(error_at(ConvertErrorKind::AlreadyDeclared, r));
     };
     zero_value(tree, arena, k, r, v)?;
@@ -165,14 +163,13 @@ fn assign_to(
     ensures states_as { StatesAs (given assign_to_steps v) (at c k.old) r tree.now text.now arena.old scratch.old (stated k.new result) arena.new scratch.new }
     ensures types { StatesTyped assign_types (at c k.old) r tree.now text.now scratch.old (stated k.new result) scratch.new }
 {
-    let scope = c.scope;
     let e = reference(tree, r, WORD_C);
     let src = convert_expr(tree, text, arena, scratch, k, c, e)?;
-    let y = get_type(tree, text, scratch, scope, c.turn, e)?;
+    let y = get_type(tree, text, scratch, c.scope, c.turn, e)?;
     let expected = v.1 as usize;
     check_fits(tree, e, y, expected, ConvertErrorKind::WrongAssignType, r)?;
     copy_fitted(tree, arena, k, v, src);
-    Ok(scope)
+    Ok(c.scope)
 }
 
 fn convert_assign(
@@ -183,19 +180,18 @@ fn convert_assign(
     k: &mut [usize],
     c: Converter,
     r: usize,
-    v: VarId,
-    constant: bool,
+    known: Known,
 ) -> Result<Scope, ConvertError>
     requires converting { Converting tree.now text.now arena.old scratch.old (at c k.old) × BehindAfforded tree.now text.now (at c k.old) r }
-    requires kind { IsKind tree.now kind_init r × TypeAt tree.now v.1 }
+    requires kind { IsKind tree.now kind_init r × TypeAt tree.now known.var.1 }
     requires in_turn { InTurn tree.now text.now scratch.old (at c k.old) }
-    ensures states_as { StatesAs (givens assign_steps v constant) (at c k.old) r tree.now text.now arena.old scratch.old (stated k.new result) arena.new scratch.new }
+    ensures states_as { StatesAs (givens assign_steps known.var known.constant) (at c k.old) r tree.now text.now arena.old scratch.old (stated k.new result) arena.new scratch.new }
     ensures types { StatesTyped assign_types (at c k.old) r tree.now text.now scratch.old (stated k.new result) scratch.new }
 {
-    if constant {
+    if known.constant {
         return Err(error_at(ConvertErrorKind::AssignToConstant, r));
     }
-    assign_to(tree, text, arena, scratch, k, c, r, v)
+    assign_to(tree, text, arena, scratch, k, c, r, known.var)
 }
 
 // What a new variable of a value of type y has as its type: an address to nothing for Null.
@@ -226,10 +222,9 @@ fn declare_init(
     ensures declares_as { DeclaresAs (givens declare_init_steps y src) (at c k.old) r tree.now text.now arena.old scratch.old (stated k.new result) arena.new scratch.new }
     ensures types { StatesTyped no_types (at c k.old) r tree.now text.now scratch.old (stated k.new result) scratch.new }
 {
-    let scope = c.scope;
     let constant = detail(tree, r) == 1;
     let v = new_var(arena, k, init_type(y) as u32);
-    let Some(next) = declare_name(tree, text, scratch, scope, r, v, constant) else {
+    let Some(next) = declare_name(tree, text, scratch, c.scope, r, v, constant) else {
         return Err(error_at(ConvertErrorKind::AlreadyDeclared, r));
     };
     emit_copy(arena, k, v, src);
@@ -252,9 +247,8 @@ fn init_new(
     ensures states_as { StatesAs init_new_steps (at c k.old) r tree.now text.now arena.old scratch.old (stated k.new result) arena.new scratch.new }
     ensures types { StatesTyped init_types (at c k.old) r tree.now text.now scratch.old (stated k.new result) scratch.new }
 {
-    let scope = c.scope;
     let e = reference(tree, r, WORD_C);
-    let y = get_type(tree, text, scratch, scope, c.turn, e)?;
+    let y = get_type(tree, text, scratch, c.scope, c.turn, e)?;
     let src = convert_expr(tree, text, arena, scratch, k, c, e)?;
     declare_init(tree, text, arena, scratch, k, c, r, y, src)
 }
@@ -275,22 +269,11 @@ pub(crate) fn convert_init(
     ensures states_as { StatesAs init_steps (at c k.old) r tree.now text.now arena.old scratch.old (stated k.new result) arena.new scratch.new }
     ensures types { StatesTyped init_types (at c k.old) r tree.now text.now scratch.old (stated k.new result) scratch.new }
 {
-    let scope = c.scope;
     if detail(tree, r) == 1 {
         return init_new(tree, text, arena, scratch, k, c, r);
     }
-    match find_name(tree, text, scratch, scope, r) {
-        Some(known) => convert_assign(
-            tree,
-            text,
-            arena,
-            scratch,
-            k,
-            c,
-            r,
-            known.var,
-            known.constant,
-        ),
+    match find_name(tree, text, scratch, c.scope, r) {
+        Some(known) => convert_assign(tree, text, arena, scratch, k, c, r, known),
         None => init_new(tree, text, arena, scratch, k, c, r),
     }
 }
@@ -313,13 +296,12 @@ fn return_as(
     ensures states_as { StatesAs (givens return_as_steps y expected) (at c k.old) r tree.now text.now arena.old scratch.old (stated k.new result) arena.new scratch.new }
     ensures types { StatesTyped return_as_types (at c k.old) r tree.now text.now scratch.old (stated k.new result) scratch.new }
 {
-    let scope = c.scope;
     let e = reference(tree, r, WORD_A);
     check_fits(tree, e, y, expected, ConvertErrorKind::WrongReturnType, r)?;
     let value = convert_expr(tree, text, arena, scratch, k, c, e)?;
     let fitted = fit_operand(tree, arena, k, value, expected);
     emit_return(arena, k, fitted);
-    Ok(scope)
+    Ok(c.scope)
 }
 
 // The Return r: its type is held against the function's before the value is converted.
@@ -338,10 +320,9 @@ pub(crate) fn convert_return(
     ensures states_as { StatesAs return_steps (at c k.old) r tree.now text.now arena.old scratch.old (stated k.new result) arena.new scratch.new }
     ensures types { StatesTyped head_types (at c k.old) r tree.now text.now scratch.old (stated k.new result) scratch.new }
 {
-    let scope = c.scope;
     let e = reference(tree, r, WORD_A);
-    let expected = reference(tree, scope.function as usize, WORD_D);
-    let y = get_type(tree, text, scratch, scope, c.turn, e)?;
+    let expected = reference(tree, c.scope.function as usize, WORD_D);
+    let y = get_type(tree, text, scratch, c.scope, c.turn, e)?;
     if expected == NONE as usize {
         return Err(error_at(ConvertErrorKind::ReturnWithoutType, r));
     }
@@ -365,11 +346,10 @@ fn call_only(
     ensures call_only_as { CallOnlyAs (given call_only_steps f) (at c k.old) e tree.now text.now arena.old scratch.old (stated k.new result) arena.new scratch.new }
     ensures types { StatesTyped call_only_types (at c k.old) e tree.now text.now scratch.old (stated k.new result) scratch.new }
 {
-    let scope = c.scope;
     let count = convert_args(tree, text, arena, scratch, k, c, e)?;
     pass_args(tree, text, arena, scratch, k, c, e, f, count);
     emit_call_only(arena, k, f as u32);
-    Ok(scope)
+    Ok(c.scope)
 }
 
 // The call statement r whose expression e is a call; at a cast the Rust would panic.
@@ -389,8 +369,7 @@ fn call_statement(
     ensures states_as { StatesAs call_statement_steps (at c k.old) r tree.now text.now arena.old scratch.old (stated k.new result) arena.new scratch.new }
     ensures types { StatesTyped own_types (at c k.old) r tree.now text.now scratch.old (stated k.new result) scratch.new }
 {
-    let scope = c.scope;
-    match resolve_call(tree, text, scratch, scope, c.turn, e)? {
+    match resolve_call(tree, text, scratch, c.scope, c.turn, e)? {
         Callee::Cast(_) => Err(error_at(ConvertErrorKind::WouldPanic, r)),
         Callee::Function(f) => call_only(tree, text, arena, scratch, k, c, e, f),
     }
@@ -412,13 +391,35 @@ pub(crate) fn convert_call(
     ensures states_as { StatesAs call_statement_steps (at c k.old) r tree.now text.now arena.old scratch.old (stated k.new result) arena.new scratch.new }
     ensures types { StatesTyped own_types (at c k.old) r tree.now text.now scratch.old (stated k.new result) scratch.new }
 {
-    let scope = c.scope;
     let e = reference(tree, r, WORD_A);
     if kind(tree, e) == KIND_CALL {
         return call_statement(tree, text, arena, scratch, k, c, r, e);
     }
-    get_type(tree, text, scratch, scope, c.turn, e)?;
-    Ok(scope)
+    get_type(tree, text, scratch, c.scope, c.turn, e)?;
+    Ok(c.scope)
+}
+
+// A jump to the label of this kind of the innermost loop; outside of all loops it is refused.
+fn jump_in_loop(
+    tree: &[u8],
+    text: &[u8],
+    arena: &mut [u8],
+    scratch: &[u8],
+    k: &mut [usize],
+    c: Converter,
+    r: usize,
+    kind: LabelKind,
+    outside: ConvertErrorKind,
+) -> Result<Scope, ConvertError>
+    requires converting { Converting tree.now text.now arena.old scratch.now (at c k.old) × BehindAfforded tree.now text.now (at c k.old) r }
+    requires r_bound { r < 4294967296 }
+    ensures { StatesAs (givens loop_jump_steps kind outside) (at c k.old) r tree.now text.now arena.old scratch.now (stated k.new result) arena.new scratch.now }
+{
+    let Some(l) = c.scope.in_loop() else {
+        return Err(error_at(outside, r));
+    };
+    jump(arena, k, kind, l as usize);
+    Ok(c.scope)
 }
 
 // The Break r goes to the end of the innermost loop.
@@ -435,12 +436,9 @@ pub(crate) fn convert_break(
     requires kind { IsKind tree.now kind_break r }
     ensures { StatesAs break_steps (at c k.old) r tree.now text.now arena.old scratch.now (stated k.new result) arena.new scratch.now }
 {
-    let scope = c.scope;
-    let Some(l) = scope.in_loop() else {
-        return Err(error_at(ConvertErrorKind::BreakOutOfLoop, r));
-    };
-    jump(arena, k, LOOP_END, l as usize);
-    Ok(scope)
+    let end = LabelKind::LoopEnd;
+    let outside = ConvertErrorKind::BreakOutOfLoop;
+    jump_in_loop(tree, text, arena, scratch, k, c, r, end, outside)
 }
 
 // The Continue r goes to the start of the innermost loop, which for a For is where it counts on.
@@ -457,10 +455,7 @@ pub(crate) fn convert_continue(
     requires kind { IsKind tree.now kind_continue r }
     ensures { StatesAs continue_steps (at c k.old) r tree.now text.now arena.old scratch.now (stated k.new result) arena.new scratch.now }
 {
-    let scope = c.scope;
-    let Some(l) = scope.in_loop() else {
-        return Err(error_at(ConvertErrorKind::ContinueOutOfLoop, r));
-    };
-    jump(arena, k, LOOP_START, l as usize);
-    Ok(scope)
+    let start = LabelKind::LoopStart;
+    let outside = ConvertErrorKind::ContinueOutOfLoop;
+    jump_in_loop(tree, text, arena, scratch, k, c, r, start, outside)
 }

@@ -63,19 +63,19 @@ pub convert_for_loop-overflow_cast-r : goal.convert_for_loop-overflow_cast-r
 convert_for_loop-overflow_cast-r t c = omega (arith, c.requires.kind.below, c.requires.converting.0.ready.keyed.good.few)
 
 pub convert_for_loop-convert_block-requires : goal.convert_for_loop-convert_block-requires
-convert_for_loop-convert_block-requires t c = let h = for_list c.requires.converting.0 c.requires.converting.1 c.requires.kind c.reference-body.ensures in (omega (arith, h.0, c.decreases), ((for_converting c.requires.converting.0 c.requires.converting.1 c.requires.kind c.for_head.ensures.for_head_as (ap (stated _) c.in_ok-scope.was) c.with_loop-inner.ensures c.reference-body.ensures, for_afforded c.requires.converting.0 c.requires.converting.1 c.requires.kind c.for_head.ensures.for_head_as (ap (stated _) c.in_ok-scope.was) c.with_loop-inner.ensures c.reference-body.ensures), (h.1, (for_head-visited c.requires.converting.0 c.requires.kind c.requires.fresh c.for_head.ensures.for_head_as (ap (stated _) c.in_ok-scope.was) c.for_head.ensures.types).turns)))
+convert_for_loop-convert_block-requires t c = let h = for_list c.requires.converting.0 c.requires.converting.1 c.requires.kind c.reference-body.ensures in (omega (arith, h.0, c.decreases), ((for_converting c.requires.converting.0 c.requires.converting.1 c.requires.kind c.for_head.ensures.for_head_as (ap (stated _) c.in_ok-scope.was) c.with_loop.ensures c.reference-body.ensures, for_afforded c.requires.converting.0 c.requires.converting.1 c.requires.kind c.for_head.ensures.for_head_as (ap (stated _) c.in_ok-scope.was) c.with_loop.ensures c.reference-body.ensures), (h.1, (for_head-visited c.requires.converting.0 c.requires.kind c.requires.fresh c.for_head.ensures.for_head_as (ap (stated _) c.in_ok-scope.was) c.for_head.ensures.types).turns)))
 
 pub convert_for_loop-loop_end-requires : goal.convert_for_loop-loop_end-requires
-convert_for_loop-loop_end-requires t c = for_room c.requires.converting.0 c.requires.converting.1 c.requires.kind c.for_head.ensures.for_head_as (ap (stated _) c.in_ok-scope.was) c.with_loop-inner.ensures c.reference-body.ensures c.convert_block.ensures.block_as (ap (finished_with _) c.in_ok-convert_block.was)
+convert_for_loop-loop_end-requires t c = for_room c.requires.converting.0 c.requires.converting.1 c.requires.kind c.for_head.ensures.for_head_as (ap (stated _) c.in_ok-scope.was) c.with_loop.ensures c.reference-body.ensures c.convert_block.ensures.block_as (ap (finished_with _) c.in_ok-convert_block.was)
 
 pub convert_for_loop-returns-in_err-scope : goal.convert_for_loop-returns-in_err-scope
 convert_for_loop-returns-in_err-scope t c = let p = err_from_is_err_and c.from_residual.result c.from_residual.ensures.1 in rw (p.1, p.2) (record { finishes_as = for_stop c.requires.converting.0 c.requires.converting.1 c.requires.kind c.for_head.ensures.for_head_as (ap (stated _) c.in_err-scope.was); visits = λ k q. refused-finished k q })
 
 pub convert_for_loop-returns-in_err-convert_block : goal.convert_for_loop-returns-in_err-convert_block
-convert_for_loop-returns-in_err-convert_block t c = let p = err_from_is_err_and c.from_residual-in_err-convert_block.result c.from_residual-in_err-convert_block.ensures.1 in rw (p.1, p.2) (record { finishes_as = for_body-stop c.requires.converting.0 c.requires.converting.1 c.requires.kind c.for_head.ensures.for_head_as (ap (stated _) c.in_ok-scope.was) c.with_loop-inner.ensures c.reference-body.ensures c.convert_block.ensures.block_as (ap (finished_with _) c.in_err-convert_block.was); visits = λ k q. refused-finished k q })
+convert_for_loop-returns-in_err-convert_block t c = let p = err_from_is_err_and c.from_residual-in_err-convert_block.result c.from_residual-in_err-convert_block.ensures.1 in rw (p.1, p.2) (record { finishes_as = for_body-stop c.requires.converting.0 c.requires.converting.1 c.requires.kind c.for_head.ensures.for_head_as (ap (stated _) c.in_ok-scope.was) c.with_loop.ensures c.reference-body.ensures c.convert_block.ensures.block_as (ap (finished_with _) c.in_err-convert_block.was); visits = λ k q. refused-finished k q })
 
 pub convert_for_loop-returns : goal.convert_for_loop-returns
-convert_for_loop-returns t c = record { finishes_as = for_next c.requires.converting.0 c.requires.converting.1 c.requires.kind c.for_head.ensures.for_head_as (ap (stated _) c.in_ok-scope.was) c.with_loop-inner.ensures c.reference-body.ensures c.convert_block.ensures.block_as (ap (finished_with _) c.in_ok-convert_block.was) c.loop_end.ensures; visits = for_visited c.requires.converting.0 c.requires.kind c.requires.fresh c.for_head.ensures.for_head_as (ap (stated _) c.in_ok-scope.was) c.for_head.ensures.types refl c.reference-body.ensures c.convert_block.ensures.visits (ap (finished_with _) c.in_ok-convert_block.was) c.loop_end.ensures }
+convert_for_loop-returns t c = record { finishes_as = for_next c.requires.converting.0 c.requires.converting.1 c.requires.kind c.for_head.ensures.for_head_as (ap (stated _) c.in_ok-scope.was) c.with_loop.ensures c.reference-body.ensures c.convert_block.ensures.block_as (ap (finished_with _) c.in_ok-convert_block.was) c.loop_end.ensures; visits = for_visited c.requires.converting.0 c.requires.kind c.requires.fresh c.for_head.ensures.for_head_as (ap (stated _) c.in_ok-scope.was) c.for_head.ensures.types refl c.reference-body.ensures c.convert_block.ensures.visits (ap (finished_with _) c.in_ok-convert_block.was) c.loop_end.ensures }
 
 pub convert_if-reference-then-requires : goal.convert_if-reference-then-requires
 convert_if-reference-then-requires t c = record { record_bytes_in_bounds = omega (arith, c.requires.kind.below, c.requires.converting.0.ready.keyed.good.whole); k_bound = omega arith }
@@ -197,16 +197,16 @@ pub convert_while_loop-while_head-requires : goal.convert_while_loop-while_head-
 convert_while_loop-while_head-requires t c = record { converting = (c.requires.converting.0, c.requires.converting.1); kind = c.requires.kind; in_turn = begun-in_turn c.requires.converting.0 c.requires.kind c.requires.fresh c.requires.converting.1 }
 
 pub convert_while_loop-convert_block-requires : goal.convert_while_loop-convert_block-requires
-convert_while_loop-convert_block-requires t c = let h = while_list c.requires.converting.0 c.requires.converting.1 c.requires.kind c.reference-body.ensures in (omega (arith, h.0, c.decreases), ((while_converting c.requires.converting.0 c.requires.converting.1 c.requires.kind c.while_head.ensures.head_as (ap (finished_with _) c.in_ok-while_head.was) c.with_loop-inner.ensures c.reference-body.ensures, while_afforded c.requires.converting.0 c.requires.converting.1 c.requires.kind c.while_head.ensures.head_as (ap (finished_with _) c.in_ok-while_head.was) c.with_loop-inner.ensures c.reference-body.ensures), (h.1, (head_visited c.requires.converting.0 c.requires.kind c.requires.fresh c.while_head.ensures.head_as (ap (finished_with _) c.in_ok-while_head.was) c.while_head.ensures.types).turns)))
+convert_while_loop-convert_block-requires t c = let h = while_list c.requires.converting.0 c.requires.converting.1 c.requires.kind c.reference-body.ensures in (omega (arith, h.0, c.decreases), ((while_converting c.requires.converting.0 c.requires.converting.1 c.requires.kind c.while_head.ensures.head_as (ap (finished_with _) c.in_ok-while_head.was) c.with_loop.ensures c.reference-body.ensures, while_afforded c.requires.converting.0 c.requires.converting.1 c.requires.kind c.while_head.ensures.head_as (ap (finished_with _) c.in_ok-while_head.was) c.with_loop.ensures c.reference-body.ensures), (h.1, (head_visited c.requires.converting.0 c.requires.kind c.requires.fresh c.while_head.ensures.head_as (ap (finished_with _) c.in_ok-while_head.was) c.while_head.ensures.types).turns)))
 
 pub convert_while_loop-loop_end-requires : goal.convert_while_loop-loop_end-requires
-convert_while_loop-loop_end-requires t c = while_room c.requires.converting.0 c.requires.converting.1 c.requires.kind c.while_head.ensures.head_as (ap (finished_with _) c.in_ok-while_head.was) c.with_loop-inner.ensures c.reference-body.ensures c.convert_block.ensures.block_as (ap (finished_with _) c.in_ok-convert_block.was)
+convert_while_loop-loop_end-requires t c = while_room c.requires.converting.0 c.requires.converting.1 c.requires.kind c.while_head.ensures.head_as (ap (finished_with _) c.in_ok-while_head.was) c.with_loop.ensures c.reference-body.ensures c.convert_block.ensures.block_as (ap (finished_with _) c.in_ok-convert_block.was)
 
 pub convert_while_loop-returns-in_err-while_head : goal.convert_while_loop-returns-in_err-while_head
 convert_while_loop-returns-in_err-while_head t c = let p = err_from_is_err_and c.from_residual.result c.from_residual.ensures.1 in rw (p.1, p.2) (record { finishes_as = while_stop c.requires.converting.0 c.requires.converting.1 c.requires.kind c.while_head.ensures.head_as (ap (finished_with _) c.in_err-while_head.was); visits = λ k q. refused-finished k q })
 
 pub convert_while_loop-returns-in_err-convert_block : goal.convert_while_loop-returns-in_err-convert_block
-convert_while_loop-returns-in_err-convert_block t c = let p = err_from_is_err_and c.from_residual-in_err-convert_block.result c.from_residual-in_err-convert_block.ensures.1 in rw (p.1, p.2) (record { finishes_as = while_body-stop c.requires.converting.0 c.requires.converting.1 c.requires.kind c.while_head.ensures.head_as (ap (finished_with _) c.in_ok-while_head.was) c.with_loop-inner.ensures c.reference-body.ensures c.convert_block.ensures.block_as (ap (finished_with _) c.in_err-convert_block.was); visits = λ k q. refused-finished k q })
+convert_while_loop-returns-in_err-convert_block t c = let p = err_from_is_err_and c.from_residual-in_err-convert_block.result c.from_residual-in_err-convert_block.ensures.1 in rw (p.1, p.2) (record { finishes_as = while_body-stop c.requires.converting.0 c.requires.converting.1 c.requires.kind c.while_head.ensures.head_as (ap (finished_with _) c.in_ok-while_head.was) c.with_loop.ensures c.reference-body.ensures c.convert_block.ensures.block_as (ap (finished_with _) c.in_err-convert_block.was); visits = λ k q. refused-finished k q })
 
 pub convert_while_loop-returns : goal.convert_while_loop-returns
-convert_while_loop-returns t c = record { finishes_as = while_next c.requires.converting.0 c.requires.converting.1 c.requires.kind c.while_head.ensures.head_as (ap (finished_with _) c.in_ok-while_head.was) c.with_loop-inner.ensures c.reference-body.ensures c.convert_block.ensures.block_as (ap (finished_with _) c.in_ok-convert_block.was) c.loop_end.ensures; visits = while_visited c.requires.converting.0 c.requires.kind c.requires.fresh c.while_head.ensures.head_as (ap (finished_with _) c.in_ok-while_head.was) c.while_head.ensures.types c.reference-body.ensures c.convert_block.ensures.visits (ap (finished_with _) c.in_ok-convert_block.was) c.loop_end.ensures refl }
+convert_while_loop-returns t c = record { finishes_as = while_next c.requires.converting.0 c.requires.converting.1 c.requires.kind c.while_head.ensures.head_as (ap (finished_with _) c.in_ok-while_head.was) c.with_loop.ensures c.reference-body.ensures c.convert_block.ensures.block_as (ap (finished_with _) c.in_ok-convert_block.was) c.loop_end.ensures; visits = while_visited c.requires.converting.0 c.requires.kind c.requires.fresh c.while_head.ensures.head_as (ap (finished_with _) c.in_ok-while_head.was) c.while_head.ensures.types c.reference-body.ensures c.convert_block.ensures.visits (ap (finished_with _) c.in_ok-convert_block.was) c.loop_end.ensures refl }

@@ -14,7 +14,7 @@ pub convert_cond-requires : goal.convert_cond-requires
 convert_cond-requires c = let h = if_cond_requires _ c.requires.converting.0 c.requires.converting.1 c.reference-e.ensures c.requires.kind in record { converting = h.0; expr = h.1; in_turn = c.requires.in_turn }
 
 pub jump_if_not-requires : goal.jump_if_not-requires
-jump_if_not-requires c = if_jump_requires _ c.requires.converting.0 c.requires.converting.1 c.reference-e.ensures c.convert_cond.ensures.converts_as c.requires.kind c.if_not_label-label.ensures (ap (converted _) c.in_ok-cond.was)
+jump_if_not-requires c = if_jump_requires _ c.requires.converting.0 c.requires.converting.1 c.reference-e.ensures c.convert_cond.ensures.converts_as c.requires.kind (ap (converted _) c.in_ok-cond.was)
 
 pub returns-in_err-cond : goal.returns-in_err-cond
 returns-in_err-cond c = let p = err_from_is_err_and c.from_residual.result c.from_residual.ensures.1 in rw (p.1, p.2) (record { head_as = if-refused _ c.reference-e.ensures c.convert_cond.ensures.converts_as (ap (converted _) c.in_err-cond.was); types = refused-finished })

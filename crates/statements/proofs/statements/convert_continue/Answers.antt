@@ -1,15 +1,7 @@
--- A Continue jumps to the start of the innermost loop; outside of all it is refused.
--- By what `in_loop` answers. Assumes nothing.
-use Rattle.statements.proofs.Absent.{none-left}
-use Rattle.statements.proofs.DeclareLaws.{jump_asks, continue_outside, continue_jumps}
-use native.Mathlib.Omega.{arith}
+-- A Continue is its jump in the innermost loop.
+-- By what the jump owes. Assumes nothing.
+use Rattle.statements.proofs.DeclareLaws.{continue_states}
 use Rattle.statements.proofs.statements.convert_continue.Goals as goal
 
-pub jump-requires : goal.jump-requires
-jump-requires c = jump_asks c.requires.converting.0 _ _ c.in_loop.ensures 1 (omega arith) (omega arith) c.requires.converting.1 c.in-Some.is
-
-pub returns-in_default : goal.returns-in_default
-returns-in_default c = continue_outside c.requires.converting.0 _ _ c.in_loop.ensures (none-left _ c.in_default.not-Some) c.error_at.ensures
-
 pub returns : goal.returns
-returns c = continue_jumps c.requires.converting.0 _ _ c.in_loop.ensures c.in-Some.is c.jump.ensures
+returns c = continue_states c.requires.converting.0 c.args.r c.jump_in_loop.ensures
