@@ -33,12 +33,12 @@ const BODY_ROOM: usize = 620000;
 // No list has as many cases.
 const MOST_CASES: usize = 1000000;
 
-// What came of the next case: whether it was read whole, or else that the list ended, and whether it came out the same.
+// What came of the next case: whether it came out the same; or there was none, or it was not whole.
 #[derive(Clone, Copy)]
-struct Came {
-    read: bool,
-    ended: bool,
-    same: bool,
+enum Came {
+    Case { same: bool },
+    Ended,
+    BreaksOff,
 }
 
 #[derive(Clone, Copy)]
@@ -53,21 +53,12 @@ fn left(buffer: &[u8], tables: &[u8], from: usize, len: usize, rest: u8) -> bool
     if tables.len() < from {
         return false;
     }
-    if tables.len() - from < len {
+    let tables = &tables[from..];
+    if (tables.len() < len) | (buffer.len() < len) {
         return false;
     }
-    if buffer.len() < len {
-        return false;
-    }
-    let mut i = 0;
-    while i < buffer.len() {
-        let want = if i < len { tables[from + i] } else { rest };
-        if buffer[i] != want {
-            return false;
-        }
-        i += 1;
-    }
-    true
+    let (table, behind) = buffer.split_at(len);
+    (table == &tables[..len]) && behind.iter().all(|b| *b == rest)
 }
 
 // How many bytes of buffer k are lent.
@@ -94,10 +85,8 @@ fn table_from(head: &[u8], k: usize) -> usize
     ensures { result ≤ k * 4294967296 }
 {
     let mut from = 0;
-    let mut j = 0;
-    while j < k {
+    for j in 0..k {
         from += table(head, j);
-        j += 1;
     }
     from
 }
@@ -164,11 +153,7 @@ fn lent_of(head: &[u8], k: usize, buffer: &[u8]) -> usize
     requires { (length head.now ≡ 104) × (k < 7) }
     ensures { result ≤ length buffer.now }
 {
-    let bytes = lent(head, k);
-    if bytes < buffer.len() {
-        return bytes;
-    }
-    buffer.len()
+    lent(head, k).min(buffer.len())
 }
 
 // One case, over buffers that may be longer than what is lent of them. True if nothing differs.
@@ -275,51 +260,46 @@ fn next_case(file: &mut File, head: &mut [u8], body: &mut [u8]) -> io::Result<Ca
     requires { length head.old ≡ 104 }
 {
     let n = read_full(file, head)?;
-    let len = body_len(head);
-    let unread = Came {
-        read: false,
-        ended: n == 0,
-        same: false,
-    };
-    if n < HEAD {
-        return Ok(unread);
+    if n == 0 {
+        return Ok(Came::Ended);
     }
-    if body.len() < len {
-        return Ok(unread);
+    let len = body_len(head);
+    if n < HEAD || body.len() < len {
+        return Ok(Came::BreaksOff);
     }
     let m = read_full(file, &mut body[..len])?;
     if m < len {
-        return Ok(unread);
+        return Ok(Came::BreaksOff);
     }
-    Ok(Came {
-        read: true,
-        ended: false,
-        same: replay_body(head, &body[..len]),
-    })
+    let same = replay_body(head, &body[..len]);
+    Ok(Came::Case { same })
 }
 
 // Replays each case of the list.
 fn replay(file: &mut File) -> io::Result<Tally> {
     let mut head = [0u8; HEAD];
     let mut body = [0u8; BODY_ROOM];
-    let mut cases: usize = 0;
-    let mut differ: usize = 0;
-    let mut whole = false;
-    while cases < MOST_CASES {
-        let s = next_case(file, &mut head, &mut body)?;
-        if !s.read {
-            whole = s.ended;
-            break;
-        }
-        cases += 1;
-        if !s.same {
-            differ += 1;
+    let mut differ = 0;
+    for cases in 0..MOST_CASES {
+        match next_case(file, &mut head, &mut body)? {
+            Came::Case { same: true } => {}
+            Came::Case { same: false } => differ += 1,
+            Came::Ended => return Ok(Tally {
+                cases,
+                differ,
+                whole: true,
+            }),
+            Came::BreaksOff => return Ok(Tally {
+                cases,
+                differ,
+                whole: false,
+            }),
         }
     }
     Ok(Tally {
-        cases,
+        cases: MOST_CASES,
         differ,
-        whole,
+        whole: false,
     })
 }
 

@@ -3,7 +3,7 @@
 
 ghost use Rattle.std.specs.Prelude.{◌≤◌, length, IfOk};
 
-use converter::{Answer, Counts};
+use converter::Counts;
 use records::convert_error::{AnswerWords, words_of};
 use std::fs::File;
 use std::io;
@@ -60,8 +60,8 @@ fn convert_and_print(rt: &impl Print, tree: &[u8], text: &[u8]) -> io::Result<()
         &mut scratch,
     );
     match answer {
-        Answer::Converted(c) => print_counts(rt, c),
-        Answer::Refused(e) => print_refusal(rt, words_of(tree, e)),
+        Ok(c) => print_counts(rt, c),
+        Err(e) => print_refusal(rt, words_of(tree, e)),
     }
 }
 

@@ -6,7 +6,7 @@ use mathlib.Core.Bool.{Bool}
 use mathlib.Core.List.{List, [], ◌∷◌, ◌++◌}
 use native.Mathlib.Omega.{arith}
 use lib.ListN.{length}
-use Rattle.records.specs.Words.{word_at, records, most_records}
+use Rattle.records.specs.Words.{word_at, records}
 use Rattle.records.specs.Good.{Good}
 use Rattle.records.specs.declared.convert_error.ConvertError.{ConvertError}
 use Rattle.syntax.specs.Syntax.{Function}
@@ -26,9 +26,8 @@ use Rattle.ir.specs.declared.structs.Counters.{Counters}
 use Rattle.ir.specs.Arena.{NumberedTexts, Table, LinkedEntries, float_entry_bucket, no_float, Holds, Room}
 use Rattle.keys.specs.Keys.{function_places, all_keys, Mapped, Keyed}
 use Rattle.keys.proofs.KeyLaws.{from, from_start, from_one, from_end}
-use Rattle.keys.proofs.KeySearch.{records-most}
 use Rattle.texts.specs.Texts.{Kept}
-use Rattle.expressions.specs.declared.answers.Outcome.{Outcome}
+use Rattle.std.specs.Prelude.{Result as StdResult, Ok, Err}
 use Rattle.expressions.specs.Answers.{refusal, outcome_of}
 use Rattle.expressions.specs.Slots.{visits_at, Forgets}
 use Rattle.statements.specs.Lent.{Finished}
@@ -36,7 +35,6 @@ use Rattle.statements.specs.Converting.{Stays}
 use Rattle.statements.specs.Turns.{Turns}
 use Rattle.statements.proofs.StayLaws.{keyed_stays}
 use Rattle.statements.specs.Meets.{texts_of}
-use Rattle.functions.specs.declared.functions.AllFunctions.{AllFunctions}
 use Rattle.functions.specs.Functions.{AllMeet, done, refused}
 use Rattle.functions.specs.Bodies.{begun, FunctionsAfforded, FunctionSpent, FunctionStands, FunctionDone, ConvertsFunction, FunctionVisited}
 use Rattle.converter.specs.Convert.{empty_pool, ProgramStands, ConvertsTo, all_functions, empty_counters}
@@ -127,9 +125,6 @@ all_start tree text l s count k keyed counted room turns e =
     })
 
 module _ (tree text l₀ s₀ : List ℕ) (count : ℕ) (k : Counters) (j : ℕ) (l s : List ℕ) (w : SoFar tree text l₀ s₀ count k j l s) where
-  pub few-functions : count ≤ most_records
-  few-functions = omega (arith, w.counted, records-most tree (records tree), w.keyed.good.few)
-
   module _ (h : j < count) (f : ℕ) (is : f ≡ word_at s (4 * j)) where
     -- the function at hand, and those behind it
     one_more : from tree text j ≡ function_of tree text f ∷ from tree text (j + 1)
@@ -250,19 +245,19 @@ module _ (tree s s' : List ℕ) (g : Forgets tree s s') where
 
 -- ---- the three steps of `convert`
 
-module _ (tree text s s₁ : List ℕ) (r : AllFunctions) (m : AllMeet tree text s s₁ r) where
+module _ (tree text s s₁ : List ℕ) (r : StdResult ℕ ConvertError) (m : AllMeet tree text s s₁ r) where
   -- what `get_all_functions` answered
-  keys-refused : (e : ConvertError) → r ≡ AllFunctions.Refused e → get_all_functions (program tree text).functions [] ≡ refusal e
+  keys-refused : (e : ConvertError) → r ≡ Err e → get_all_functions (program tree text).functions [] ≡ refusal e
   keys-refused e q = go r m q
     where
-      go : (x : AllFunctions) → AllMeet tree text s s₁ x → x ≡ AllFunctions.Refused e → get_all_functions (program tree text).functions [] ≡ refusal e
+      go : (x : StdResult ℕ ConvertError) → AllMeet tree text s s₁ x → x ≡ Err e → get_all_functions (program tree text).functions [] ≡ refusal e
       go x (done p k c) z = absurd (let y : ◌≡◌ {A = ℕ} 0 1 = cc in omega arith)
       go x (refused {e = f} p l g) z = let y : f ≡ e = cc in g ∙ ap refusal y
 
-  pub keys-done : (count : ℕ) → r ≡ AllFunctions.Done count → Mapped tree text s₁ × (count ≡ length (function_places tree))
+  pub keys-done : (count : ℕ) → r ≡ Ok count → Mapped tree text s₁ × (count ≡ length (function_places tree))
   keys-done count q = go r m q
     where
-      go : (x : AllFunctions) → AllMeet tree text s s₁ x → x ≡ AllFunctions.Done count → Mapped tree text s₁ × (count ≡ length (function_places tree))
+      go : (x : StdResult ℕ ConvertError) → AllMeet tree text s s₁ x → x ≡ Ok count → Mapped tree text s₁ × (count ≡ length (function_places tree))
       go x (done {count = n} p k c) z = let y : n ≡ count = cc in (k, sym y ∙ c)
       go x (refused p l g) z = absurd (let y : ◌≡◌ {A = ℕ} 0 1 = cc in omega arith)
 
@@ -270,7 +265,7 @@ module _ (tree text s s₁ : List ℕ) (r : AllFunctions) (m : AllMeet tree text
     pub listed-long : length s₁ ≡ length s
     listed-long = go r m
       where
-        go : (x : AllFunctions) → AllMeet tree text s s₁ x → length s₁ ≡ length s
+        go : (x : StdResult ℕ ConvertError) → AllMeet tree text s s₁ x → length s₁ ≡ length s
         go x (done p k c) = p.long
         go x (refused p l g) = p.long
 
@@ -278,7 +273,7 @@ module _ (tree text s s₁ : List ℕ) (r : AllFunctions) (m : AllMeet tree text
     listed-room = omega (arith, listed-long, room)
 
     module _ (needsMain : Bool) where
-      pub tree_unkeyed : (l : List ℕ) (e : ConvertError) → r ≡ AllFunctions.Refused e → ConvertsTo tree text (convert (program tree text) needsMain) l s (Finished.Refused e) l s₁
+      pub tree_unkeyed : (l : List ℕ) (e : ConvertError) → r ≡ Err e → ConvertsTo tree text (convert (program tree text) needsMain) l s (Finished.Refused e) l s₁
       unfolding convert ◌>>=◌ refusal
       tree_unkeyed l e q = record {
         long = refl;
@@ -288,23 +283,23 @@ module _ (tree text s s₁ : List ℕ) (r : AllFunctions) (m : AllMeet tree text
         stops = λ x z. let y : e ≡ x = cc in rw (keys-refused e q, y);
       }
 
-      module _ (count : ℕ) (q : r ≡ AllFunctions.Done count) (o : Outcome) (c : check_main (program tree text) needsMain ≡ outcome_of o) where
-        pub tree_mainless : (l : List ℕ) (e : ConvertError) → o ≡ Outcome.Refused e → ConvertsTo tree text (convert (program tree text) needsMain) l s (Finished.Refused e) l s₁
+      module _ (count : ℕ) (q : r ≡ Ok count) (o : StdResult (Unit {0}) ConvertError) (c : check_main (program tree text) needsMain ≡ outcome_of o) where
+        pub tree_mainless : (l : List ℕ) (e : ConvertError) → o ≡ Err e → ConvertsTo tree text (convert (program tree text) needsMain) l s (Finished.Refused e) l s₁
         unfolding convert ◌>>=◌ outcome_of refusal
         tree_mainless l e p = record {
           long = refl;
           scratch_long = listed-long;
           gives = λ k z. absurd (let y : ◌≡◌ {A = ℕ} 0 1 = cc in omega arith);
           visits = λ k z. absurd (let y : ◌≡◌ {A = ℕ} 0 1 = cc in omega arith);
-          stops = λ x z. let y : o ≡ Outcome.Refused x = cc in rw ((keys-done count q).0.distinct, c ∙ ap outcome_of y);
+          stops = λ x z. let y : o ≡ Err x = cc in rw ((keys-done count q).0.distinct, c ∙ ap outcome_of y);
         }
 
-        all_asked : o ≡ Outcome.Done → convert (program tree text) needsMain ≡ all_functions tree text
+        all_asked : o ≡ Ok tt → convert (program tree text) needsMain ≡ all_functions tree text
         unfolding convert ◌>>=◌ outcome_of
         all_asked p = rw ((keys-done count q).0.distinct, c ∙ ap outcome_of p)
 
         -- s₂ is what writing the keys' digests and forgetting leave of scratch
-        pub tree_all : o ≡ Outcome.Done → (s₂ : List ℕ) → length s₂ ≡ length s₁ → (l l' s' : List ℕ) (a : Finished) → ConvertsTo tree text (all_functions tree text) l s₂ a l' s'
+        pub tree_all : o ≡ Ok tt → (s₂ : List ℕ) → length s₂ ≡ length s₁ → (l l' s' : List ℕ) (a : Finished) → ConvertsTo tree text (all_functions tree text) l s₂ a l' s'
             → ConvertsTo tree text (convert (program tree text) needsMain) l s a l' s'
         tree_all p s₂ same l l' s' a m = rw (all_asked p) (record { long = m.long; scratch_long = m.scratch_long ∙ same ∙ listed-long; gives = m.gives; visits = m.visits; stops = m.stops })
 

@@ -26,10 +26,10 @@ use Rattle.ir.specs.Arena.{NumberedTexts, Holds}
 use Rattle.ir.specs.Cut as Cut
 use Rattle.ir.proofs.CutLaws as CutLaws
 use Rattle.ir.proofs.CutLaws.{instructions-are, variables-are, labels-are, functions-are, strings-are, floats-are}
-use Rattle.judge.specs.Judge.{Buffers, buffers, lengths_of, verdict, judged, cleared, judged_in, judge_leaves}
+use Rattle.judge.specs.Judge.{Buffers, buffers, lengths_of, verdict, Judged, judged, cleared, judged_in, judge_leaves}
 use Rattle.judge.specs.Keeps.{JudgeKeeps, placed, unplaced}
 use Rattle.judge.specs.declared.Lengths.{Lengths}
-use Rattle.judge.specs.declared.Judged.{Judged}
+use Rattle.std.specs.Prelude.{Result as StdResult, Ok, Err}
 use Rattle.judge.proofs.RowLaws.{cleared-length, core_kept, core_cleared, answer_in_lem, outputs-cleared, outputs-kept}
 use Rattle.expressions.specs.Slots.{visits_at}
 use Rattle.statements.specs.Lent.{Finished}
@@ -41,7 +41,6 @@ use Rattle.demands.proofs.GoodLaws.{good-visits}
 use Rattle.demands.proofs.WaysOut.{refused_run, good_in, some_in, enough_in, failed_run, converted_run}
 use Rattle.demands.proofs.Demands.{every_call}
 use Rattle.converter.specs.declared.Counts.{Counts}
-use Rattle.converter.specs.declared.Answer.{Answer}
 use Rattle.converter.specs.Convert.{pool_of, ConvertsTo, counts_in, outputs, CutAfforded, SameTableLengths, FinishesIn, SevenLong, counts_from, answer_from, Promised}
 
 -- ---- one component after the other
@@ -66,7 +65,7 @@ cleared-same d e q = ap (λ (n : ℕ). replicate n 0) q
 module _ (done : Finished) (n : ℕ) (i v l f s x i' v' l' f' s' x' : List ℕ) where
   pub finish-refused : (e : ConvertError) → done ≡ Finished.Refused e
       → (i' ≡ cleared i) × (v' ≡ cleared v) × (l' ≡ cleared l) × (f' ≡ cleared f) × (s' ≡ cleared s) × (x' ≡ cleared x)
-      → FinishesIn done n (Answer.Refused e) (outputs i v l f s x) (outputs i' v' l' f' s' x')
+      → FinishesIn done n (Err e) (outputs i v l f s x) (outputs i' v' l' f' s' x')
   finish-refused e q (a, b, c, d, g, h) = record {
     long = record {
       instructions = cleared-length i i' a;
@@ -77,15 +76,15 @@ module _ (done : Finished) (n : ℕ) (i v l f s x i' v' l' f' s' x' : List ℕ) 
       floats = cleared-length x x' h;
     };
     converted = λ k z. absurd (let y : ◌≡◌ {A = ℕ} 0 1 = cc in omega arith);
-    refused = λ r z. let y : e ≡ r = cc in (ap Answer.Refused y, six_outputs a b c d g h);
+    refused = λ r z. let y : e ≡ r = cc in (ap Err y, six_outputs a b c d g h);
   }
 
   pub finish-converted : (k : Counters) (c : Counts) → done ≡ Finished.Done k → c ≡ counts_in k n → SameTableLengths (outputs i v l f s x) (outputs i' v' l' f' s' x')
-      → Cut.Cut k i i' v' l' f' s' x' → FinishesIn done n (Answer.Converted c) (outputs i v l f s x) (outputs i' v' l' f' s' x')
+      → Cut.Cut k i i' v' l' f' s' x' → FinishesIn done n (Ok c) (outputs i v l f s x) (outputs i' v' l' f' s' x')
   finish-converted k c q e long cut = record {
     long = long;
     converted = λ m z. let y : k ≡ m = cc in
-        subst (λ (o : Counters). (Answer.Converted c ≡ Answer.Converted (counts_in o n)) × Cut.Cut o i i' v' l' f' s' x') y (ap Answer.Converted e, cut);
+        subst (λ (o : Counters). (◌≡◌ {A = StdResult Counts ConvertError} (Ok c) (Ok (counts_in o n))) × Cut.Cut o i i' v' l' f' s' x') y (ap Ok e, cut);
     refused = λ r z. absurd (let y : ◌≡◌ {A = ℕ} 0 1 = cc in omega arith);
   }
 
@@ -117,7 +116,7 @@ module _ (tree text : List ℕ) (needsMain : Bool) (i v l f s x t : List ℕ) (d
 
   -- the visits that are read, and the buffers afterwards
   module _ (good : Good tree text) (n : ℕ) (read : n ≡ visits_at tree u)
-      (a : Answer) (i' v' l' f' s' x' t' : List ℕ) (e : FinishesIn done n a (outputs j v l f s x) (outputs i' v' l' f' s' x')) (z : t' ≡ cleared u) where
+      (a : StdResult Counts ConvertError) (i' v' l' f' s' x' t' : List ℕ) (e : FinishesIn done n a (outputs j v l f s x) (outputs i' v' l' f' s' x')) (z : t' ≡ cleared u) where
     scratch-zero : t' ≡ cleared t
     scratch-zero = z ∙ cleared-same u t m.scratch_long
 
@@ -196,23 +195,23 @@ all-bytes (b ∷ l) h = (h 0, all-bytes l (λ i. h (suc i)))
 
 unplaced_where : (r : Judged) → placed r ≡ true → unplaced r ≡ false
 unfolding placed unplaced
-unplaced_where Judged.Accepted h = absurd (false≢true h)
-unplaced_where (Judged.Refused e) h = go (eqb e.place none) h
+unplaced_where (Ok _) h = absurd (false≢true h)
+unplaced_where (Err e) h = go (eqb e.place none) h
   where
     go : (t : Bool) → not t ≡ true → t ≡ false
     go true z = absurd (false≢true z)
     go false z = refl
 
-refused-unplaced : (r : Judged) (e : ConvertError) → r ≡ Judged.Refused e → placed r ≡ false → unplaced r ≡ true
+refused-unplaced : (r : Judged) (e : ConvertError) → r ≡ Err e → placed r ≡ false → unplaced r ≡ true
 unfolding placed unplaced
-refused-unplaced Judged.Accepted e q h = absurd (let y : ◌≡◌ {A = ℕ} 0 1 = cc in omega arith)
-refused-unplaced (Judged.Refused x) e q h = go (eqb x.place none) h
+refused-unplaced (Ok _) e q h = absurd (let y : ◌≡◌ {A = ℕ} 0 1 = cc in omega arith)
+refused-unplaced (Err x) e q h = go (eqb x.place none) h
   where
     go : (t : Bool) → not t ≡ false → t ≡ true
     go true z = refl
     go false z = absurd (false≢true (sym z))
 
-accepted-unplaced : (r : Judged) → r ≡ Judged.Accepted → placed r ≡ false
+accepted-unplaced : (r : Judged) → r ≡ Ok tt → placed r ≡ false
 unfolding placed
 accepted-unplaced r q = ap placed q
 
@@ -220,8 +219,8 @@ accepted-unplaced r q = ap placed q
 -- bytes are the judge's own, and the end of the conversion clears them
 pub record JudgedFirst (tree text : List ℕ) (b : Buffers) (r : Judged) (b₁ : Buffers) : Type 0 where
   pub is : r ≡ judged_in tree text b
-  pub refused : (e : ConvertError) → r ≡ Judged.Refused e → b₁ ≡ judge_leaves tree text b
-  pub accepted : r ≡ Judged.Accepted
+  pub refused : (e : ConvertError) → r ≡ Err e → b₁ ≡ judge_leaves tree text b
+  pub accepted : r ≡ Ok tt
       → (b₁ ≡ buffers b.instructions b.variables b.labels b.functions b.strings b.floats b₁.scratch) × (length b₁.scratch ≡ length b.scratch)
 
 -- r is the rows' answer, given how long the outputs are, and u what they leave of scratch
@@ -257,14 +256,14 @@ module _ (tree text : List ℕ) (b : Buffers) (r : Judged) (u : List ℕ)
         accepted = λ q. (refl, rows.1.same);
       }
 
-pub first-accepted : (tree text : List ℕ) (b : Buffers) (r : Judged) (u : List ℕ) → Rows tree text (lengths_of b) b.scratch r u → r ≡ Judged.Accepted
+pub first-accepted : (tree text : List ℕ) (b : Buffers) (r : Judged) (u : List ℕ) → Rows tree text (lengths_of b) b.scratch r u → r ≡ Ok tt
     → JudgedFirst tree text b r (buffers b.instructions b.variables b.labels b.functions b.strings b.floats u)
 first-accepted tree text b r u rows q = first-kept tree text b r u rows false (sym (accepted-unplaced r q)) refl
 
 -- r is the judge's answer, and b₁ the buffers that it leaves
 module _ (tree text : List ℕ) (b : Buffers) (r : Judged) (b₁ : Buffers) (first : JudgedFirst tree text b r b₁) where
-  module _ (q : r ≡ Judged.Accepted) where
-    accepted : judged_in tree text b ≡ Judged.Accepted
+  module _ (q : r ≡ Ok tt) where
+    accepted : judged_in tree text b ≡ Ok tt
     accepted = sym first.is ∙ q
 
     pub judged-good : Good tree text
@@ -283,14 +282,14 @@ module _ (tree text : List ℕ) (b : Buffers) (r : Judged) (b₁ : Buffers) (fir
         })
 
   module _ (needsMain : Bool) (bytes : (i : ℕ) → get_or tree i 0 < 256) where
-    kept : (a : Answer) (b₂ : Buffers) → Calls tree text needsMain b (answer_from tree a) b₂ → Promised tree text needsMain b a b₂
+    kept : (a : StdResult Counts ConvertError) (b₂ : Buffers) → Calls tree text needsMain b (answer_from tree a) b₂ → Promised tree text needsMain b a b₂
     kept a b₂ c = record { bytes = all-bytes tree bytes; calls = c; demands = every_call ℕ tree text needsMain b (answer_from tree a) b₂ c }
 
-    pub judge_refuses : (e : ConvertError) → r ≡ Judged.Refused e → Promised tree text needsMain b (Answer.Refused e) b₁
+    pub judge_refuses : (e : ConvertError) → r ≡ Err e → Promised tree text needsMain b (Err e) b₁
     unfolding answer_from
-    judge_refuses e q = kept (Answer.Refused e) b₁ (rw (first.refused e q) (refused_run tree text needsMain b e (sym first.is ∙ q)))
+    judge_refuses e q = kept (Err e) b₁ (rw (first.refused e q) (refused_run tree text needsMain b e (sym first.is ∙ q)))
 
-    module _ (q : r ≡ Judged.Accepted) (a : Answer) (b₂ : Buffers) (rust : AsTheRust tree text needsMain b₁ (answer_from tree a) b₂) where
+    module _ (q : r ≡ Ok tt) (a : StdResult Counts ConvertError) (b₂ : Buffers) (rust : AsTheRust tree text needsMain b₁ (answer_from tree a) b₂) where
       -- the same over the buffers as found, but for scratch
       found : AsTheRust tree text needsMain (buffers b.instructions b.variables b.labels b.functions b.strings b.floats b₁.scratch) (answer_from tree a) b₂
       found = subst (λ (z : Buffers). AsTheRust tree text needsMain z (answer_from tree a) b₂) (first.accepted q).0 rust

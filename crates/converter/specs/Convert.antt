@@ -1,6 +1,6 @@
 -- What the call owes: its answer in document 01's words, the tables that a conversion leaves in the arena, and the promise itself, which is the
 -- one definition of the call, the three demands and what is said of visits. Assumes nothing: these are definitions.
-use Rattle.std.specs.Prelude.{◌≡◌, ℕ, ◌*◌, ◌≤◌, Bool, List, [], length}
+use Rattle.std.specs.Prelude.{◌≡◌, ℕ, ◌*◌, ◌≤◌, Bool, List, [], length, Result as StdResult, Ok, Err}
 use Rattle.laws.specs.All.{All}
 use Rattle.records.specs.Layout.{scratch_each}
 use Rattle.records.specs.Words.{records}
@@ -27,7 +27,6 @@ use Rattle.demands.specs.Call as Call
 use Rattle.demands.specs.Call.{Calls}
 use Rattle.demands.specs.Demands.{Demands}
 use Rattle.converter.specs.declared.Counts.{Counts}
-use Rattle.converter.specs.declared.Answer.{Answer}
 
 -- ---- while converting: all tables stand in the arena
 
@@ -109,11 +108,11 @@ pub record SameTableLengths (b b' : Written.Tables) : Type 0 where
   pub strings : length b'.strings ≡ length b.strings
   pub floats : length b'.floats ≡ length b.floats
 
-pub record FinishesIn (done : Finished) (visits : ℕ) (a : Answer) (b b' : Written.Tables) : Type 0 where
+pub record FinishesIn (done : Finished) (visits : ℕ) (a : StdResult Counts ConvertError) (b b' : Written.Tables) : Type 0 where
   pub long : SameTableLengths b b'
-  pub converted : (k : Counters) → done ≡ Finished.Done k → (a ≡ Answer.Converted (counts_in k visits))
+  pub converted : (k : Counters) → done ≡ Finished.Done k → (a ≡ Ok (counts_in k visits))
       × Cut.Cut k b.instructions b'.instructions b'.variables b'.labels b'.functions b'.strings b'.floats
-  pub refused : (e : ConvertError) → done ≡ Finished.Refused e → (a ≡ Answer.Refused e) × (b' ≡ cleared_all b)
+  pub refused : (e : ConvertError) → done ≡ Finished.Refused e → (a ≡ Err e) × (b' ≡ cleared_all b)
 
 -- the seven buffers are as long as document 01 lends them
 pub record SevenLong (n : ℕ) (b : Buffers) : Type 0 where
@@ -135,14 +134,14 @@ counts_from c = record {
 }
 
 -- 'An answer is the number, place and the record's span, or six counts', and the visits behind them
-unfoldable pub answer_from : List ℕ → Answer → Call.Answer
+unfoldable pub answer_from : List ℕ → StdResult Counts ConvertError → Call.Answer
 unfolding words_of
-answer_from tree (Answer.Converted c) = Call.Counted (counts_from c) c.visits
-answer_from tree (Answer.Refused e) = Call.Refusal (words_of tree e)
+answer_from tree (Ok c) = Call.Counted (counts_from c) c.visits
+answer_from tree (Err e) = Call.Refusal (words_of tree e)
 
 -- THE PROMISE: a tree is bytes; the answer and each byte of the seven buffers are those of the one definition of the call; and with it
 -- the three demands hold, with what is said of visits, the third for runs over natural numbers (over every type of values: `promised_everywhere` in proofs/Everywhere.antt)
-pub record Promised (tree text : List ℕ) (needsMain : Bool) (before : Buffers) (answer : Answer) (after : Buffers) : Type 0 where
+pub record Promised (tree text : List ℕ) (needsMain : Bool) (before : Buffers) (answer : StdResult Counts ConvertError) (after : Buffers) : Type 0 where
   pub bytes : All Byte tree
   pub calls : Calls tree text needsMain before (answer_from tree answer) after
   pub demands : Demands ℕ tree text needsMain before (answer_from tree answer) after

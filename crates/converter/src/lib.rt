@@ -14,17 +14,15 @@ ghost use Rattle.judge.specs.Judge.{buffers};
 ghost use Rattle.demands.specs.Demands.{AsTheRust};
 ghost use Rattle.converter.specs.Convert.{AllConvertTo, ProgramConvertsTo, empty_counters, counts_in, answer_from, outputs, SevenLong, CutAfforded, FinishesIn, Promised};
 
-use expressions::answers::Outcome;
 use functions::bodies::convert_func;
-use functions::functions::{AllFunctions, check_main, get_all_functions};
+use functions::functions::{check_main, get_all_functions};
 use ir::cut::cut_tables;
 use ir::lent::{COUNT_RECORDS, COUNTERS, counters_of};
 use ir::structs::Counters;
-use judge::{Judged, clear, clear_outputs, has_place, judge_rows, lengths_of};
+use judge::{clear, clear_outputs, has_place, judge_rows, lengths_of};
 use keys::keys::{chain_functions, function_at};
 use records::convert_error::ConvertError;
 use records::words::RECORD_BYTES;
-use statements::answers::Finished;
 use texts::number_texts;
 
 // How many entries each table has, and how often the type of an expression was worked out.
@@ -37,12 +35,6 @@ pub struct Counts {
     pub strings: usize,
     pub floats: usize,
     pub visits: usize,
-}
-
-#[derive(Clone, Copy)]
-pub enum Answer {
-    Converted(Counts),
-    Refused(ConvertError),
 }
 
 fn counts_of(k: Counters, visits: usize) -> Counts
@@ -67,21 +59,16 @@ fn convert_all(
     scratch: &mut [u8],
     k: &mut [usize],
     count: usize,
-) -> Finished
+) -> Result<(), ConvertError>
     requires keyed { Keyed tree.now text.now scratch.old × (count ≡ length (function_places tree.now)) × (arena_each * records tree.now ≤ length arena.old) }
     requires turns { Turns tree.now scratch.old (empty_counters (records tree.now)) × (counted k.old ≡ empty_counters (records tree.now)) }
     ensures { AllConvertTo tree.now text.now arena.old scratch.old (finished_with k.new result) arena.new scratch.new }
 {
-    let mut j = 0;
-    while j < count {
+    for j in 0..count {
         let f = function_at(tree, scratch, j);
-        match convert_func(tree, text, arena, scratch, k, f) {
-            Finished::Refused(e) => return Finished::Refused(e),
-            Finished::Done => {}
-        }
-        j += 1;
+        convert_func(tree, text, arena, scratch, k, f)?;
     }
-    Finished::Done
+    Ok(())
 }
 
 // A good tree, whose tables stand in the arena afterwards. Its texts are numbered first, so that names are told apart without them. What scratch holds of
@@ -93,30 +80,22 @@ fn convert_program(
     arena: &mut [u8],
     scratch: &mut [u8],
     k: &mut [usize],
-) -> Finished
+) -> Result<(), ConvertError>
     requires good { Good tree.now text.now × (arena_each * records tree.now ≤ length arena.old) × (scratch_each * records tree.now ≤ length scratch.old) × (0 < records tree.now) }
     requires k_value { counted k.old ≡ empty_counters (records tree.now) }
     ensures { ProgramConvertsTo tree.now text.now needs_main arena.old scratch.old (finished_with k.new result) arena.new scratch.new }
 {
     number_texts(tree, text, scratch);
-    match get_all_functions(tree, text, scratch) {
-        AllFunctions::Refused(e) => Finished::Refused(e),
-        AllFunctions::Done(count) => {
-            match check_main(tree, text, scratch, count, needs_main) {
-                Outcome::Refused(e) => Finished::Refused(e),
-                Outcome::Done => {
-                    chain_functions(tree, text, scratch, count);
-                    expressions::turns::forget(tree, scratch);
-                    convert_all(tree, text, arena, scratch, k, count)
-                }
-            }
-        }
-    }
+    let count = get_all_functions(tree, text, scratch)?;
+    check_main(tree, text, scratch, count, needs_main)?;
+    chain_functions(tree, text, scratch, count);
+    expressions::turns::forget(tree, scratch);
+    convert_all(tree, text, arena, scratch, k, count)
 }
 
 // What is left in the outputs: each table in its own, or zero everywhere.
 fn finish(
-    done: Finished,
+    done: Result<(), ConvertError>,
     k: &[usize],
     visits: usize,
     instructions: &mut [u8],
@@ -125,16 +104,16 @@ fn finish(
     functions: &mut [u8],
     strings: &mut [u8],
     floats: &mut [u8],
-) -> Answer
+) -> Result<Counts, ConvertError>
     requires { CutAfforded (finished_with k.now done) (outputs instructions.old variables.old labels.old functions.old strings.old floats.old) }
     ensures { FinishesIn (finished_with k.now done) visits result (outputs instructions.old variables.old labels.old functions.old strings.old floats.old) (outputs instructions.new variables.new labels.new functions.new strings.new floats.new) }
 {
     match done {
-        Finished::Refused(e) => {
+        Err(e) => {
             clear_outputs(instructions, variables, labels, functions, strings, floats);
-            Answer::Refused(e)
+            Err(e)
         }
-        Finished::Done => {
+        Ok(()) => {
             let c = counters_of(k);
             cut_tables(
                 instructions,
@@ -145,7 +124,7 @@ fn finish(
                 strings,
                 floats,
             );
-            Answer::Converted(counts_of(c, visits))
+            Ok(counts_of(c, visits))
         }
     }
 }
@@ -162,7 +141,7 @@ fn convert_good(
     strings: &mut [u8],
     floats: &mut [u8],
     scratch: &mut [u8],
-) -> Answer
+) -> Result<Counts, ConvertError>
     requires good { Good tree.now text.now × (0 < records tree.now) }
     requires seven_long { SevenLong (records tree.now) (buffers instructions.old variables.old labels.old functions.old strings.old floats.old scratch.old) }
     ensures { AsTheRust tree.now text.now needs_main (buffers instructions.old variables.old labels.old functions.old strings.old floats.old scratch.old) (answer_from tree.now result) (buffers instructions.new variables.new labels.new functions.new strings.new floats.new scratch.new) }
@@ -199,18 +178,17 @@ pub fn convert(
     strings: &mut [u8],
     floats: &mut [u8],
     scratch: &mut [u8],
-) -> Answer
+) -> Result<Counts, ConvertError>
     ensures { Promised tree.now text.now needs_main (buffers instructions.old variables.old labels.old functions.old strings.old floats.old scratch.old) result (buffers instructions.new variables.new labels.new functions.new strings.new floats.new scratch.new) }
 {
     let l = lengths_of(instructions, variables, labels, functions, strings, floats);
     let judged = judge_rows(tree, text, l, scratch);
-    if let Judged::Refused(e) = judged {
+    if let Err(e) = judged {
         if has_place(judged) {
             clear_outputs(instructions, variables, labels, functions, strings, floats);
             clear(scratch);
-            return Answer::Refused(e);
         }
-        return Answer::Refused(e);
+        return Err(e);
     }
     convert_good(
         tree,

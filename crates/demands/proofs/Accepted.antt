@@ -25,7 +25,7 @@ use Rattle.conversion.specs.Written.{Counts, Tables, Converted, conversion}
 use Rattle.tables.specs.Bytes.{Byte}
 use Rattle.tables.specs.Read.{Begin}
 use Rattle.judge.specs.declared.Lengths.{Lengths}
-use Rattle.judge.specs.declared.Judged.TheVariants.{Accepted}
+use Rattle.std.specs.Prelude.{Ok}
 use Rattle.judge.specs.Judge.{lengths_ok, buffers_ok, lowest_fault, lowest_deep, at_lengths, at_buffers, at_records, at_nesting, Verdict, RefusedBy, Passed, refused_by, at_lowest, records_verdict, verdict, judged_by, judged}
 use Rattle.demands.specs.Demand3.{RunsAlike}
 use Rattle.demands.proofs.Demand3.{good-demand3}
@@ -59,7 +59,7 @@ not-false false e = absurd (false≢true (sym e))
 
 -- ---- the rows
 
-pub judged-passed : (v : Verdict) → judged_by v ≡ Accepted → v ≡ Passed
+pub judged-passed : (v : Verdict) → judged_by v ≡ Ok tt → v ≡ Passed
 unfolding judged_by
 judged-passed (RefusedBy row e) h = let z : ◌≡◌ {A = ℕ} 0 1 = cc in absurd (omega arith)
 judged-passed Passed h = refl
@@ -115,7 +115,7 @@ module _ (tree text : List ℕ) (l : Lengths) (scratch : ℕ) (passed : verdict 
   pub passed-lent : buffers_ok (records tree) l scratch ≡ true
   passed-lent = parts.lent
 
-module _ (tree text : List ℕ) (l : Lengths) (scratch : ℕ) (accepted : judged tree text l scratch ≡ Accepted) where
+module _ (tree text : List ℕ) (l : Lengths) (scratch : ℕ) (accepted : judged tree text l scratch ≡ Ok tt) where
   accepted-passed : verdict tree text l scratch ≡ Passed
   unfolding judged
   accepted-passed = judged-passed (verdict tree text l scratch) accepted

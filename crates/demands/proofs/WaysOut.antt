@@ -6,13 +6,13 @@ use mathlib.Core.Bool.{Bool}
 use mathlib.Core.List.{List}
 use native.Mathlib.Omega.{arith}
 use lib.ListN.{length}
+use Rattle.std.specs.Prelude.{Ok, Err}
 use Rattle.records.specs.Words.{records}
 use Rattle.records.specs.Answer.{words_of}
 use Rattle.records.specs.Good.{Good}
 use Rattle.records.specs.declared.convert_error.ConvertErrorKind.{ConvertErrorKind}
 use Rattle.records.specs.declared.convert_error.ConvertError.{ConvertError}
 use Rattle.judge.specs.Judge.{Buffers, buffers, lengths_of, at_conversion, Verdict, RefusedBy, Passed, judged_by, verdict_in, judged_in, output_after, scratch_after, verdict_leaves, judge_leaves, cleared}
-use Rattle.judge.specs.declared.Judged.TheVariants.{Accepted, Refused}
 use Rattle.judge.proofs.RowLaws.{Enough, enough}
 use Rattle.syntax.specs.Decode.{program}
 use Rattle.conversion.specs.ConvertError.{ok, err}
@@ -28,11 +28,11 @@ use Rattle.demands.proofs.Demands.{run_of, other-rows}
 module _ (tree text : List ℕ) (needsMain : Bool) (before : Buffers) where
   -- ---- the judge refuses
 
-  pub refused_run : (e : ConvertError) → judged_in tree text before ≡ Refused e → Calls tree text needsMain before (Refusal (words_of tree e)) (judge_leaves tree text before)
+  pub refused_run : (e : ConvertError) → judged_in tree text before ≡ Err e → Calls tree text needsMain before (Refusal (words_of tree e)) (judge_leaves tree text before)
   unfolding judged_in judged_by judge_leaves verdict_leaves output_after scratch_after answer_of buffers_after
   refused_run e h = go (verdict_in tree text before) refl h
     where
-      go : (v : Verdict) → verdict_in tree text before ≡ v → judged_by v ≡ Refused e → Calls tree text needsMain before (Refusal (words_of tree e)) (verdict_leaves (verdict_in tree text before) before)
+      go : (v : Verdict) → verdict_in tree text before ≡ v → judged_by v ≡ Err e → Calls tree text needsMain before (Refusal (words_of tree e)) (verdict_leaves (verdict_in tree text before) before)
       go (RefusedBy row f) q k =
           let z : f ≡ e = cc in
           run_of tree text needsMain before _ _ (RefusedAt row (words_of tree f)) (refused-first tree text needsMain before row f q)
@@ -41,7 +41,7 @@ module _ (tree text : List ℕ) (needsMain : Bool) (before : Buffers) where
 
   -- ---- the judge accepts
 
-  module _ (accepted : judged_in tree text before ≡ Accepted) where
+  module _ (accepted : judged_in tree text before ≡ Ok tt) where
     passed_in : verdict_in tree text before ≡ Passed
     unfolding judged_in
     passed_in = judged-passed (verdict_in tree text before) accepted

@@ -1,5 +1,6 @@
 -- What the argument in a cell is, and what the typed arguments from a cell on are: the first, and the rest.
 -- By the laws of cells; an expression's place is its record. Assumes nothing.
+use Rattle.std.specs.Prelude.{Some, None}
 use mathlib.Core.Path.{◌≡◌, refl, sym, ap, ◌∙◌, subst}
 use mathlib.Core.Bool.{Bool, true, false}
 use mathlib.Core.List.{List, [], ◌∷◌}
@@ -22,7 +23,6 @@ use Rattle.syntax.specs.Syntax.{place}
 use Rattle.syntax.specs.Decode.{node, expr_of, kinds, nothing_at, int_at, float_at, str_at, bool_at, name_at, null_at, size_of_at, unary_at, binary_at, call_at, key_at, text_of}
 use Rattle.syntax.proofs.Unfold.{node-is}
 use Rattle.conversion.specs.Expressions.{TypedArg, target_type, source_type}
-use Rattle.records.specs.declared.words.Found.{Found}
 use Rattle.keys.specs.declared.parts.Part.{Part}
 use Rattle.expressions.specs.declared.arguments.Argument.{Argument}
 use Rattle.syntax.specs.Places.{IsExpr, TypeAt, ArgsAt, ParamsAt, expr_at, args_at, params_at}
@@ -186,7 +186,7 @@ module _ (tree text : List ℕ) where
   -- ---- the first type, and the type of the first expression
 
   module _ (s : List ℕ) (w : ℕ) (o : Option ℕ) where
-    pub target_hit : (a : Argument) (y : ℕ) → ArgumentIs tree text w a → a ≡ Argument.ToType y → o ≡ target_type (typed_at tree text s w) → found_number (Found.At y) ≡ o
+    pub target_hit : (a : Argument) (y : ℕ) → ArgumentIs tree text w a → a ≡ Argument.ToType y → o ≡ target_type (typed_at tree text s w) → found_number (Some y) ≡ o
     unfolding target_type typed_arg found_number
     target_hit a y is e h = sym (h ∙ rw (head_is w s is, e))
 
@@ -195,12 +195,12 @@ module _ (tree text : List ℕ) where
     unfolding target_type typed_arg
     target_more a e v is q p h = h ∙ rw (head_is w s is, q, p)
 
-    pub target_end : Good tree text → w ≡ none → o ≡ target_type (typed_at tree text s w) → found_number Found.Nothing ≡ o
+    pub target_end : Good tree text → w ≡ none → o ≡ target_type (typed_at tree text s w) → found_number None ≡ o
     unfolding target_type found_number
     target_end good e h = sym (h ∙ rw (typed_end good s w e))
 
     pub source_hit : (a : Argument) (e y : ℕ) → ArgumentIs tree text w a → a ≡ Argument.Expr e → y ≡ slot_at tree s e
-        → o ≡ source_type (typed_at tree text s w) → found_number (Found.At y) ≡ o
+        → o ≡ source_type (typed_at tree text s w) → found_number (Some y) ≡ o
     unfolding source_type typed_arg found_number
     source_hit a e y is q p h = rw p (sym (h ∙ rw (head_is w s is, q)))
 
@@ -209,7 +209,7 @@ module _ (tree text : List ℕ) where
     unfolding source_type typed_arg
     source_more a y v is q p h = h ∙ rw (head_is w s is, q, p)
 
-    pub source_end : Good tree text → w ≡ none → o ≡ source_type (typed_at tree text s w) → found_number Found.Nothing ≡ o
+    pub source_end : Good tree text → w ≡ none → o ≡ source_type (typed_at tree text s w) → found_number None ≡ o
     unfolding source_type found_number
     source_end good e h = sym (h ∙ rw (typed_end good s w e))
 

@@ -1,5 +1,7 @@
 -- The loop over a call's arguments: what is left suffices for what was asked, in the scope that the open names stand for and in one turn.
 -- By one turn at a value, at a type, at a refusal, and at the end. Assumes nothing.
+use Rattle.std.specs.Prelude.{Ok, Err}
+use Rattle.expressions.specs.Answers.{Answer}
 use mathlib.Core.Path.{◌≡◌, refl, sym, ap, ◌∙◌, subst}
 use mathlib.Core.Logic.{◌⊎◌, inl, inr}
 use mathlib.Core.List.{List, ◌∷◌, ◌++◌}
@@ -23,8 +25,6 @@ use Rattle.conversion.specs.Scope as Def
 use Rattle.conversion.specs.Expressions.{TypedArg, Functions, get_type, get_argument_types}
 use Rattle.scope.specs.declared.Scope.{Scope}
 use Rattle.scope.specs.Open.{scope_at}
-use Rattle.expressions.specs.declared.answers.Outcome.{Outcome}
-use Rattle.expressions.specs.declared.answers.ExprType.{ExprType}
 use Rattle.expressions.specs.declared.arguments.Argument.{Argument}
 use Rattle.syntax.specs.Places.{IsExpr, IsKind, ArgsAt, expr_at, args_at}
 use Rattle.keys.specs.Keys.{all_keys}
@@ -188,7 +188,7 @@ module _ (tree text : List ℕ) (good : Good tree text) (s₀ : List ℕ) (sc : 
     now_scope : scope_at tree text s sc ≡ S
     now_scope = same-scope tree text s₀ sc turn typing s l.frame
 
-    pub loop_end_lem : w ≡ none → ArgsMeet tree text s₀ sc turn (word_of tree r C) Outcome.Done s
+    pub loop_end_lem : w ≡ none → ArgsMeet tree text s₀ sc turn (word_of tree r C) (Ok tt) s
     unfolding done_with slotted ArgsTyped args_exprs get_argument_types
     loop_end_lem e =
         let over : args_at tree text w ≡ no_args = ap (args_at tree text) e ∙ args_end tree text good in
@@ -248,11 +248,11 @@ module _ (tree text : List ℕ) (good : Good tree text) (s₀ : List ℕ) (sc : 
           pub value_low : (e < r) × IsExpr tree e
           value_low = (omega (arith, found.lower, below-call), found.expression)
 
-          module _ (t : ExprType) (s₁ : List ℕ) (m : TypeMeets tree text s sc turn e t s₁) where
+          module _ (t : Answer ℕ) (s₁ : List ℕ) (m : TypeMeets tree text s sc turn e t s₁) where
             typed_now : type_in tree text S e ≡ type_result t
             typed_now = later_type tree text s₀ sc turn typing s l.frame e t s₁ m
 
-            pub turn-stop : (x : ConvertError) → t ≡ ExprType.Refused x → ArgsMeet tree text s₀ sc turn (word_of tree r C) (Outcome.Refused x) s₁
+            pub turn-stop : (x : ConvertError) → t ≡ Err x → ArgsMeet tree text s₀ sc turn (word_of tree r C) (Err x) s₁
             unfolding done_with refusal
             turn-stop x v = record {
               frame = frame_trans l.frame m.frame;
@@ -263,10 +263,10 @@ module _ (tree text : List ℕ) (good : Good tree text) (s₀ : List ℕ) (sc : 
               adds = λ z. absurd (differ z);
             }
               where
-                differ : Outcome.Refused x ≡ Outcome.Done → ⊥
+                differ : ◌≡◌ {A = Answer (Unit {0})} (Err x) (Ok tt) → ⊥
                 differ z = let u : ◌≡◌ {A = ℕ} 0 1 = cc in omega arith
 
-            pub turn-value : (y : ℕ) → t ≡ ExprType.Is y → (s' : List ℕ) → s' ≡ s₁ → (n : ℕ) → n ≡ word_of tree w B → Left tree text s₀ sc turn r s' n
+            pub turn-value : (y : ℕ) → t ≡ Ok y → (s' : List ℕ) → s' ≡ s₁ → (n : ℕ) → n ≡ word_of tree w B → Left tree text s₀ sc turn r s' n
             turn-value y v s' es n en = moved s₁ s' n (word_of tree w B) es en (record {
               frame = frame_trans l.frame m.frame;
               typing = typing_next tree text s sc turn l.typing s₁ m.frame (exprs (expr_at tree text e)) (m.adds y v);

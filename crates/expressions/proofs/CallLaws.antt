@@ -1,5 +1,8 @@
 -- What a call runs, as the code meets it: the functions that literals fit, the cast, and which of them is taken.
 -- By the cases of the definitions, and by the listed functions one after the other. Assumes nothing.
+use Rattle.std.specs.Prelude.{Option as StdOption, Some, None, Ok, Err}
+use Rattle.expressions.specs.declared.answers.Callee as Code
+use Rattle.expressions.specs.Answers.{Answer}
 use mathlib.Core.Path.{◌≡◌, refl, sym, ap, ap₂, ◌∙◌}
 use mathlib.Core.Bool.{Bool, true, false, not, ◌&&◌}
 use mathlib.Core.List.{List, [], ◌∷◌, ◌++◌, append-nil}
@@ -18,17 +21,14 @@ use Rattle.records.specs.declared.convert_error.ConvertError.{ConvertError}
 use Rattle.records.specs.Words.{byte_at, word_at, word_of, text_at, records, A}
 use Rattle.records.specs.Kinds.{kind_call}
 use Rattle.records.specs.Good.{Good}
-use Rattle.records.proofs.GoodLaws.{inside, call-a, call-c}
+use Rattle.records.proofs.GoodLaws.{call-a, call-c}
 use Rattle.syntax.specs.Syntax.{Text, Function, Program}
 use Rattle.syntax.specs.Decode.{program, text_of, type_at}
 use Rattle.conversion.specs.ConvertError.{Result, err, ◌>>=◌, UnknownFunction, AmbiguousCall, InvalidCast}
 use Rattle.conversion.specs.Ir.{same_text}
 use Rattle.conversion.specs.Types.{can_cast}
 use Rattle.conversion.specs.Expressions.{TypedArg, Callee, Functions, cast_verb, is_mangled, takes_both, target_type, source_type, cast_checked, cast_to, cast_type, by_literals, find_functions_by_literals, find_exact_function, chosen, exact_or, resolve_function, resolve_typed}
-use Rattle.records.specs.declared.words.Found.{Found}
 use Rattle.expressions.specs.declared.answers.Candidates.{Candidates}
-use Rattle.expressions.specs.declared.answers.Cast.{Cast}
-use Rattle.expressions.specs.declared.answers.Resolved.{Resolved}
 use Rattle.expressions.specs.declared.arguments.Call.{Call}
 use Rattle.syntax.specs.Places.{IsKind, TypeAt, FunctionAt, ArgsAt, function_of, args_at}
 use Rattle.keys.specs.Keys.{records_below, functions_of, all_keys, key_slot_at, name_head_at, is_function, name_bucket, Keyed, function_found, FunctionFound}
@@ -253,38 +253,35 @@ module _ (tree text s : List ℕ) (K : Keyed tree text s) (c : Call) (h : Called
 
 -- ---- the cast
 
-pub type-inside : (tree text : List ℕ) → Good tree text → (y : ℕ) → TypeAt tree y → y * 32 + 32 ≤ length tree
-type-inside tree text good y t = inside tree text good y t.below
-
 module _ (tree text : List ℕ) (verb : Text) (l : List TypedArg) (r : ℕ) (b : Bool) (h : b ≡ same_text verb cast_verb) where
-  pub cast-not : not b ≡ true → cast_type (program tree text) (all_keys tree text) verb l r ≡ cast_result Cast.Not
+  pub cast-not : not b ≡ true → cast_type (program tree text) (all_keys tree text) verb l r ≡ cast_result (Ok None)
   unfolding cast_type pick cast_result
   cast-not q = rw (sym h, not-true b q)
 
-  module _ (q : not b ≡ false) (t : Found) (ht : found_number t ≡ target_type l) where
+  module _ (q : not b ≡ false) (t : StdOption ℕ) (ht : found_number t ≡ target_type l) where
     cast_to_lem : cast_type (program tree text) (all_keys tree text) verb l r ≡ cast_to (program tree text) (all_keys tree text) r l (found_number t)
     unfolding cast_type pick
     cast_to_lem = rw (sym h, not-false b q, sym ht)
 
-    pub cast_nowhere : t ≡ Found.Nothing → cast_type (program tree text) (all_keys tree text) verb l r ≡ cast_result Cast.Not
+    pub cast_nowhere : t ≡ None → cast_type (program tree text) (all_keys tree text) verb l r ≡ cast_result (Ok None)
     unfolding cast_to cast_result found_number
     cast_nowhere e = cast_to_lem ∙ rw e
 
-    module _ (to : ℕ) (e : t ≡ Found.At to) (u : Found) (hu : found_number u ≡ source_type l) where
+    module _ (to : ℕ) (e : t ≡ Some to) (u : StdOption ℕ) (hu : found_number u ≡ source_type l) where
       cast_checked_lem : cast_type (program tree text) (all_keys tree text) verb l r ≡ cast_checked (program tree text) (all_keys tree text) r to (found_number u)
       unfolding cast_to found_number
       cast_checked_lem = cast_to_lem ∙ rw (e, sym hu)
 
-      pub cast-free : u ≡ Found.Nothing → cast_type (program tree text) (all_keys tree text) verb l r ≡ cast_result (Cast.To to)
+      pub cast-free : u ≡ None → cast_type (program tree text) (all_keys tree text) verb l r ≡ cast_result (Ok (Some to))
       unfolding cast_checked cast_result found_number
       cast-free p = cast_checked_lem ∙ rw p
 
-      module _ (from : ℕ) (p : u ≡ Found.At from) (c : Bool) (hc : c ≡ can_cast (type_at tree text) from to) where
-        pub cast_fine : c ≡ true → cast_type (program tree text) (all_keys tree text) verb l r ≡ cast_result (Cast.To to)
+      module _ (from : ℕ) (p : u ≡ Some from) (c : Bool) (hc : c ≡ can_cast (type_at tree text) from to) where
+        pub cast_fine : c ≡ true → cast_type (program tree text) (all_keys tree text) verb l r ≡ cast_result (Ok (Some to))
         unfolding cast_checked cast_result found_number pick program
         cast_fine w = cast_checked_lem ∙ rw (p, sym hc, w)
 
-        pub cast_wrong : c ≡ false → cast_type (program tree text) (all_keys tree text) verb l r ≡ cast_result (Cast.Refused (record { kind = InvalidCast; place = r }))
+        pub cast_wrong : c ≡ false → cast_type (program tree text) (all_keys tree text) verb l r ≡ cast_result (Err (record { kind = InvalidCast; place = r }))
         unfolding cast_checked cast_result found_number pick program refusal
         cast_wrong w = cast_checked_lem ∙ rw (p, sym hc, w)
 
@@ -297,7 +294,7 @@ one_function tree c f several e = absurd (let z : ◌≡◌ {A = ℕ} 0 1 = cc i
 
 -- none, one or several
 module _ (tree text : List ℕ) (l : List Function) (r : ℕ) where
-  chosen-one : (f : ℕ) → AreAll tree text (Candidates.One f) l → chosen l r ≡ callee_of tree text (Resolved.Function f)
+  chosen-one : (f : ℕ) → AreAll tree text (Candidates.One f) l → chosen l r ≡ callee_of tree text (Ok (Code.Callee.Function f))
   unfolding AreAll chosen callee_of
   chosen-one f e = rw e
 
@@ -312,37 +309,37 @@ chosen-several tree text (f ∷ []) r e = absurd e
 chosen-several tree text (f ∷ g ∷ l) r e = refl
 
 -- the exact one comes first
-module _ (tree text : List ℕ) (verb : Text) (l : List TypedArg) (r : ℕ) (t : Found)
+module _ (tree text : List ℕ) (verb : Text) (l : List TypedArg) (r : ℕ) (t : StdOption ℕ)
     (h : function_found tree text t ≡ find_exact_function (program tree text) (all_keys tree text) verb l) where
   abbrev resolved : Result Callee
   resolved = resolve_function (program tree text) (all_keys tree text) verb l r nothing
 
-  pub exact_one : FunctionFound tree t → (f : ℕ) → t ≡ Found.At f → CalleeIs tree text (Resolved.Function f) resolved
+  pub exact_one : FunctionFound tree t → (f : ℕ) → t ≡ Some f → CalleeIs tree text (Ok (Code.Callee.Function f)) resolved
   unfolding resolve_function exact_or callee_of function_found
   exact_one at f e = record { is = rw (sym h, e); callee = IsCallee.a_function (found-function tree t f at e) }
 
-  module _ (e : t ≡ Found.Nothing) (c : Candidates) (all : AreAll tree text c (find_functions_by_literals (program tree text) (all_keys tree text) verb l)) where
+  module _ (e : t ≡ None) (c : Candidates) (all : AreAll tree text c (find_functions_by_literals (program tree text) (all_keys tree text) verb l)) where
     by_choice : resolved ≡ chosen (find_functions_by_literals (program tree text) (all_keys tree text) verb l) r
     unfolding resolve_function exact_or function_found
     by_choice = rw (sym h, e)
 
-    pub choice_one : OneFunction tree c → (f : ℕ) → c ≡ Candidates.One f → CalleeIs tree text (Resolved.Function f) resolved
+    pub choice_one : OneFunction tree c → (f : ℕ) → c ≡ Candidates.One f → CalleeIs tree text (Ok (Code.Callee.Function f)) resolved
     choice_one at f q = record {
       is = by_choice ∙ chosen-one tree text _ r f (rw q at all);
       callee = IsCallee.a_function (one_function tree c f at q);
     }
 
-    pub choice_nobody : c ≡ Candidates.Nobody → (a : Resolved) → a ≡ Resolved.Refused (record { kind = UnknownFunction; place = r })
+    pub choice_nobody : c ≡ Candidates.Nobody → (a : Answer Code.Callee) → a ≡ Err (record { kind = UnknownFunction; place = r })
         → CalleeIs tree text a resolved
     unfolding callee_of refusal
     choice_nobody q a w = rw w (record { is = by_choice ∙ chosen-nobody tree text _ r (rw q at all); callee = IsCallee.no })
 
-    pub choice_several : c ≡ Candidates.Several → (a : Resolved) → a ≡ Resolved.Refused (record { kind = AmbiguousCall; place = r })
+    pub choice_several : c ≡ Candidates.Several → (a : Answer Code.Callee) → a ≡ Err (record { kind = AmbiguousCall; place = r })
         → CalleeIs tree text a resolved
     unfolding callee_of refusal
     choice_several q a w = rw w (record { is = by_choice ∙ chosen-several tree text _ r (rw q at all); callee = IsCallee.no })
 
-cast_type-is : (tree : List ℕ) (a : Cast) (y : ℕ) → IsCast tree a → a ≡ Cast.To y → TypeAt tree y
+cast_type-is : (tree : List ℕ) (a : Answer (StdOption ℕ)) (y : ℕ) → IsCast tree a → a ≡ Ok (Some y) → TypeAt tree y
 cast_type-is tree a y (IsCast.to {y = v} t) e = let z : y ≡ v = cc in rw z t
 cast_type-is tree a y IsCast.not_cast e = absurd (let z : ◌≡◌ {A = ℕ} 0 1 = cc in omega arith)
 cast_type-is tree a y IsCast.no e = absurd (let z : ◌≡◌ {A = ℕ} 0 1 = cc in omega arith)
@@ -400,16 +397,16 @@ module _ (tree text s : List ℕ) (r : ℕ) (c : Call) (o : CallAt tree text r c
   abbrev whole : Result Callee
   whole = resolve_typed (program tree text) (all_keys tree text) (text_of tree text r 0) r (typed_at tree text s (word_of tree r 2))
 
-  module _ (a : Cast) (h : CastIs tree a (cast_type (program tree text) (all_keys tree text) (verb_of tree text s c) (typed_at tree text s c.first) r)) where
-    pub typed-refused : (e : ConvertError) → a ≡ Cast.Refused e → CalleeIs tree text (Resolved.Refused e) whole
+  module _ (a : Answer (StdOption ℕ)) (h : CastIs tree a (cast_type (program tree text) (all_keys tree text) (verb_of tree text s c) (typed_at tree text s c.first) r)) where
+    pub typed-refused : (e : ConvertError) → a ≡ Err e → CalleeIs tree text (Err e) whole
     unfolding resolve_typed ◌>>=◌ cast_result refusal callee_of
     typed-refused e q = record { is = same-call ∙ rw (h.is, q); callee = IsCallee.no }
 
-    pub typed-cast : (y : ℕ) → a ≡ Cast.To y → CalleeIs tree text (Resolved.Cast y) whole
+    pub typed-cast : (y : ℕ) → a ≡ Ok (Some y) → CalleeIs tree text (Ok (Code.Callee.Cast y)) whole
     unfolding resolve_typed resolve_function ◌>>=◌ cast_result callee_of
     typed-cast y q = record { is = same-call ∙ rw (h.is, q); callee = IsCallee.a_cast (cast_type-is tree a y h.type q) }
 
-    pub typed-function : a ≡ Cast.Not → (b : Resolved)
+    pub typed-function : a ≡ Ok None → (b : Answer Code.Callee)
         → CalleeIs tree text b (resolve_function (program tree text) (all_keys tree text) (verb_of tree text s c) (typed_at tree text s c.first) r nothing)
         → CalleeIs tree text b whole
     unfolding resolve_typed ◌>>=◌ cast_result

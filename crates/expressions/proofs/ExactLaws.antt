@@ -1,5 +1,6 @@
 -- The function of a verb and its arguments: by the verb, by a whole name, and these and the longest prefix one after the other, as the code looks for them.
 -- By the laws of a key looked for and of what a walk along its chain finds. Assumes nothing.
+use Rattle.std.specs.Prelude.{Option as StdOption, Some, None}
 use mathlib.Core.Path.{◌≡◌, refl, sym, ap, ◌∙◌}
 use mathlib.Core.Bool.{Bool, true, false}
 use mathlib.Core.List.{List}
@@ -15,7 +16,6 @@ use Rattle.syntax.specs.Syntax.{Text, Function}
 use Rattle.syntax.specs.Decode.{program}
 use Rattle.conversion.specs.Ir.{same_text}
 use Rattle.conversion.specs.Expressions.{is_mangled, takes_both, get_function, filter_option, suffixes, joined, mangled_function, variadic_function, find_exact_function}
-use Rattle.records.specs.declared.words.Found.{Found}
 use Rattle.records.proofs.RollLaws.{roll_small}
 use Rattle.records.proofs.TextLaws.{other-lengths}
 use Rattle.keys.specs.declared.parts.Part.{Part}
@@ -33,34 +33,34 @@ use Rattle.expressions.proofs.NameLaws.{same-turned, part_length, name-length, n
 
 module _ (tree text : List ℕ) where
   -- found and kept, found and left, and not found
-  module _ (p : Function → Bool) (o : Option Function) (r : Found) (is : function_found tree text r ≡ o) where
-    pub filter_hit : (f : ℕ) (b : Bool) → FunctionFound tree r → r ≡ Found.At f → b ≡ p (function_of tree text f) → b ≡ true
-        → FunctionIs tree text (Found.At f) (filter_option p o)
+  module _ (p : Function → Bool) (o : Option Function) (r : StdOption ℕ) (is : function_found tree text r ≡ o) where
+    pub filter_hit : (f : ℕ) (b : Bool) → FunctionFound tree r → r ≡ Some f → b ≡ p (function_of tree text f) → b ≡ true
+        → FunctionIs tree text (Some f) (filter_option p o)
     unfolding function_found filter_option pick
     filter_hit f b w e q t = record {
       is = rw (sym is, e, sym q, t) refl;
       function = a_function (found-function tree r f w e);
     }
 
-    pub filter-left : (f : ℕ) (b : Bool) → r ≡ Found.At f → b ≡ p (function_of tree text f) → b ≡ false
-        → FunctionIs tree text Found.Nothing (filter_option p o)
+    pub filter-left : (f : ℕ) (b : Bool) → r ≡ Some f → b ≡ p (function_of tree text f) → b ≡ false
+        → FunctionIs tree text None (filter_option p o)
     unfolding function_found filter_option pick
     filter-left f b e q t = record { is = rw (sym is, e, sym q, t) refl; function = none_found }
 
-    pub filter_none : r ≡ Found.Nothing → FunctionIs tree text Found.Nothing (filter_option p o)
+    pub filter_none : r ≡ None → FunctionIs tree text None (filter_option p o)
     unfolding function_found filter_option
     filter_none e = record { is = rw (sym is, e) refl; function = none_found }
 
   -- a function alone
   pub mangled_hit : (f : ℕ) (b : Bool) → FunctionAt tree f → b ≡ is_mangled (function_of tree text f) → b ≡ true
-      → FunctionIs tree text (Found.At f) (filter_option is_mangled (some (function_of tree text f)))
+      → FunctionIs tree text (Some f) (filter_option is_mangled (some (function_of tree text f)))
   unfolding function_found
-  mangled_hit f b a q t = filter_hit is_mangled (some (function_of tree text f)) (Found.At f) refl f b (a_function a) refl q t
+  mangled_hit f b a q t = filter_hit is_mangled (some (function_of tree text f)) (Some f) refl f b (a_function a) refl q t
 
   pub mangled_left : (f : ℕ) (b : Bool) → b ≡ is_mangled (function_of tree text f) → b ≡ false
-      → FunctionIs tree text Found.Nothing (filter_option is_mangled (some (function_of tree text f)))
+      → FunctionIs tree text None (filter_option is_mangled (some (function_of tree text f)))
   unfolding function_found
-  mangled_left f b q t = filter-left is_mangled (some (function_of tree text f)) (Found.At f) refl f b refl q t
+  mangled_left f b q t = filter-left is_mangled (some (function_of tree text f)) (Some f) refl f b refl q t
 
 -- ---- a call's names
 
@@ -94,14 +94,14 @@ module _ (tree text s : List ℕ) (c : Call) where
 
 module _ (tree text : List ℕ) (t : Text) where
   -- what was found by a key, where it has to be mangled
-  pub name-found : (r : Found) (f : Function) → get_function t (all_keys tree text) ≡ some f
+  pub name-found : (r : StdOption ℕ) (f : Function) → get_function t (all_keys tree text) ≡ some f
       → FunctionIs tree text r (filter_option is_mangled (some f))
       → FunctionIs tree text r (mangled_function (program tree text) (all_keys tree text) t)
   unfolding mangled_function
   name-found r f e h = record { is = h.is ∙ ap (filter_option is_mangled) (sym e); function = h.function }
 
   pub name_nowhere : get_function t (all_keys tree text) ≡ none
-      → FunctionIs tree text Found.Nothing (mangled_function (program tree text) (all_keys tree text) t)
+      → FunctionIs tree text None (mangled_function (program tree text) (all_keys tree text) t)
   unfolding mangled_function filter_option function_found
   name_nowhere e = record { is = ap (filter_option is_mangled) (sym e); function = none_found }
 
@@ -120,24 +120,24 @@ module _ (tree text s : List ℕ) (c : Call) (h : Called tree text s c) where
       e ∙ ap (λ (o : ℕ). word_at s (text_digest_at (records tree) o)) q.number ∙ original-digest tree text s numbered q.of q.below q.has_its_text ∙ ap roll_of q.text_is in
       (z, rw z (roll_small 1 (verb_of tree text s c) (omega arith)))
 
-  pub verb-found : Keyed tree text s → (v : Found) → FindsKey tree text s c.verb v → FunctionIs tree text v (get_function (verb_of tree text s c) (all_keys tree text))
+  pub verb-found : Keyed tree text s → (v : StdOption ℕ) → FindsKey tree text s c.verb v → FunctionIs tree text v (get_function (verb_of tree text s c) (all_keys tree text))
   verb-found K v finds =
       let q = h.numbered in
       rw q.text_is at (finds (all_keys tree text) K.slots q.of q.below q.has_its_text q.number)
 
   -- without arguments the whole name is the verb
-  module _ (bare : c.count ≡ 0) (K : Keyed tree text s) (v : Found) (finds : FindsKey tree text s c.verb v) where
+  module _ (bare : c.count ≡ 0) (K : Keyed tree text s) (v : StdOption ℕ) (finds : FindsKey tree text s c.verb v) where
     whole_is : get_function (name_of tree text s c c.count) (all_keys tree text) ≡ function_found tree text v
     unfolding name_of joined
     whole_is = rw bare (sym (verb-found K v finds).is)
 
-    pub verb_alone : (f : ℕ) → v ≡ Found.At f → (r : Found) → FunctionIs tree text r (filter_option is_mangled (some (function_of tree text f)))
+    pub verb_alone : (f : ℕ) → v ≡ Some f → (r : StdOption ℕ) → FunctionIs tree text r (filter_option is_mangled (some (function_of tree text f)))
         → FunctionIs tree text r (mangled_function (program tree text) (all_keys tree text) (name_of tree text s c c.count))
     unfolding function_found
     verb_alone f e r h =
         name-found tree text (name_of tree text s c c.count) r (function_of tree text f) (whole_is ∙ ap (function_found tree text) e) h
 
-    pub verb_missing : v ≡ Found.Nothing → FunctionIs tree text Found.Nothing (mangled_function (program tree text) (all_keys tree text) (name_of tree text s c c.count))
+    pub verb_missing : v ≡ None → FunctionIs tree text None (mangled_function (program tree text) (all_keys tree text) (name_of tree text s c c.count))
     unfolding function_found
     verb_missing e = name_nowhere tree text (name_of tree text s c c.count) (whole_is ∙ ap (function_found tree text) e)
 
@@ -155,26 +155,26 @@ module _ (tree text : List ℕ) (t : Text) (f : ℕ) (p : Part) (is : PartIs tex
 -- ---- the three one after the other
 
 module _ (tree text s : List ℕ) (c : Call) (h : Called tree text s c) where
-  module _ (r : Found) (first : function_found tree text r
+  module _ (r : StdOption ℕ) (first : function_found tree text r
       ≡ filter_option (λ f. takes_both (program tree text) (all_keys tree text) f (typed_at tree text s c.first)) (get_function (verb_of tree text s c) (all_keys tree text))) where
     abbrev Exact : Option Function
     Exact = find_exact_function (program tree text) (all_keys tree text) (verb_of tree text s c) (typed_at tree text s c.first)
 
-    pub exact-verb : (f : ℕ) → FunctionFound tree r → r ≡ Found.At f → FunctionIs tree text (Found.At f) Exact
+    pub exact-verb : (f : ℕ) → FunctionFound tree r → r ≡ Some f → FunctionIs tree text (Some f) Exact
     unfolding find_exact_function function_found or_else
     exact-verb f a e = record { is = rw (sym first, e) refl; function = a_function (found-function tree r f a e) }
 
-    module _ (none_so : r ≡ Found.Nothing) (q : Found) (second : function_found tree text q ≡ mangled_function (program tree text) (all_keys tree text) (name_of tree text s c c.count)) where
+    module _ (none_so : r ≡ None) (q : StdOption ℕ) (second : function_found tree text q ≡ mangled_function (program tree text) (all_keys tree text) (name_of tree text s c c.count)) where
       whole : mangled_function (program tree text) (all_keys tree text) (name_of tree text s c c.count)
           ≡ mangled_function (program tree text) (all_keys tree text) (joined (program tree text) (all_keys tree text) (verb_of tree text s c) (suffixes (program tree text) (all_keys tree text) (typed_at tree text s c.first)))
       unfolding name_of suffixes_at
       whole = ap (λ (l : List Text). mangled_function (program tree text) (all_keys tree text) (joined (program tree text) (all_keys tree text) (verb_of tree text s c) l)) (all-taken tree text s c h)
 
-      pub exact-name : (f : ℕ) → FunctionFound tree q → q ≡ Found.At f → FunctionIs tree text (Found.At f) Exact
+      pub exact-name : (f : ℕ) → FunctionFound tree q → q ≡ Some f → FunctionIs tree text (Some f) Exact
       unfolding find_exact_function function_found or_else
       exact-name f a e = record { is = rw (sym first, none_so, sym (second ∙ whole), e) refl; function = a_function (found-function tree q f a e) }
 
-      pub exact_prefix : q ≡ Found.Nothing → (p : Found)
+      pub exact_prefix : q ≡ None → (p : StdOption ℕ)
           → function_found tree text p ≡ variadic_function (program tree text) (all_keys tree text) (verb_of tree text s c) (suffixes_at tree text s c.first)
           → function_found tree text p ≡ Exact
       unfolding find_exact_function function_found or_else suffixes_at

@@ -1,58 +1,66 @@
--- Forgetting, byte by byte: the bytes from 64n on that were reached are 0, the others are as they were; at the end no turn and no visit is left.
--- By the laws of one byte that is set. Assumes nothing.
-use mathlib.Core.Path.{◌≡◌, refl, ◌∙◌}
-use mathlib.Core.List.{List}
-use Prim.Native.Nat.{ℕ, ◌+◌, ◌*◌, ◌≤◌, ◌<◌}
+-- Forgetting: the bytes from 64n to 72n are 0, the others are as they were; so no turn and no visit is left.
+-- By the laws of a part that is written. Assumes nothing.
+use mathlib.Core.Path.{◌≡◌, ◌∙◌}
+use mathlib.Core.List.{List, ◌++◌}
+use Prim.Native.Nat.{ℕ, ◌+◌, ◌-◌, ◌*◌, ◌≤◌, ◌<◌}
 use native.Mathlib.Omega.{arith}
-use lib.Dec.{eqb}
-use lib.ListN.{length, set, length-set}
-use lib.Seq.{get_or-set_same, get_or-set_other}
-use borrow.Author.Tests.{eqb-true, eqb-false}
-use Rattle.laws.proofs.Tests.{tested}
+use lib.ListN.{length, replicate, take, drop}
+use borrow.Rule.Slice.PartMut.{put_mid, post_of}
+use Rattle.std.proofs.lemmas.List.{get_or_append_left, get_or-append_right, get_or-take, get_or-replicate, length-take-le, length-replicate, length-append, length-drop}
 use Rattle.records.specs.Words.{byte_at, word_at, records}
 use Rattle.expressions.specs.Slots.{turn_at, visits_at, Forgets}
 
--- the loop's invariant: the bytes from 64n to i are 0
-pub record Cleared (tree s₀ s : List ℕ) (i : ℕ) : Type 0 where
-  pub same_length : length s ≡ length s₀
-  pub from : 64 * records tree ≤ i
-  pub to : i ≤ 72 * records tree
-  pub below : (j : ℕ) → j < 64 * records tree → byte_at s j ≡ byte_at s₀ j
-  pub zero : (j : ℕ) → 64 * records tree ≤ j → j < i → byte_at s j ≡ 0
+module _ (tree s₀ : List ℕ) (room : 72 * records tree ≤ length s₀) (k : ℕ) (whole : 64 * records tree + k ≡ 72 * records tree) where
+  abbrev from : ℕ
+  from = 64 * records tree
 
-module _ (tree s₀ : List ℕ) where
-  pub clear_start : (i : ℕ) → i ≡ 64 * records tree → Cleared tree s₀ s₀ i
-  clear_start i e = record {
-    same_length = refl;
-    from = omega arith;
-    to = omega arith;
-    below = λ j h. refl;
-    zero = λ j h k. absurd (omega arith);
+  abbrev cleared : List ℕ
+  cleared = put_mid from k s₀ (replicate k 0)
+
+  before_lem : length (take from s₀) ≡ from
+  before_lem = length-take-le from s₀ (omega (arith, room))
+
+  same : length cleared ≡ length s₀
+  same =
+      omega (
+        arith,
+        whole,
+        room,
+        before_lem,
+        length-replicate {A = ℕ} k 0,
+        length-append (take from s₀) (replicate k 0 ++ post_of from k s₀),
+        length-append (replicate k 0) (post_of from k s₀),
+        length-drop k (drop from s₀),
+        length-drop from s₀,
+      )
+
+  below_lem : (j : ℕ) → j < from → byte_at cleared j ≡ byte_at s₀ j
+  unfolding byte_at
+  below_lem j h = get_or_append_left (take from s₀) (replicate k 0 ++ post_of from k s₀) 0 j (omega (arith, before_lem)) ∙ get_or-take from s₀ j 0 h
+
+  zero_lem : (j : ℕ) → from ≤ j → j < 72 * records tree → byte_at cleared j ≡ 0
+  unfolding byte_at
+  zero_lem j a b =
+      get_or-append_right (take from s₀) (replicate k 0 ++ post_of from k s₀) from j 0 before_lem a
+      ∙ get_or_append_left (replicate k 0) (post_of from k s₀) 0 (j - from) (omega (arith, whole, length-replicate {A = ℕ} k 0))
+      ∙ get_or-replicate k (j - from) 0 0 (omega (arith, whole))
+
+  word-zero : (p : ℕ) → 64 * records tree ≤ p → p + 4 ≤ 72 * records tree → word_at cleared p ≡ 0
+  unfolding word_at
+  word-zero p a b =
+      rw (zero_lem p a (omega arith), zero_lem (p + 1) (omega arith) (omega arith), zero_lem (p + 2) (omega arith) (omega arith), zero_lem (p + 3) (omega arith) (omega arith))
+
+  part_lem : length (take k (drop from s₀)) ≡ k
+  part_lem = length-take-le k (drop from s₀) (omega (arith, room, whole, length-drop from s₀))
+
+  clear_lem : Forgets tree s₀ cleared
+  unfolding turn_at visits_at
+  clear_lem = record {
+    same_length = same;
+    below = below_lem;
+    turns = λ e l. word-zero (64 * records tree + 4 * e) (omega arith) (omega arith);
+    none_made = λ l. word-zero (68 * records tree) (omega arith) (omega arith);
   }
 
-  module _ (s : List ℕ) (i : ℕ) (c : Cleared tree s₀ s i) where
-    pub clear_next : 72 * records tree ≤ length s₀ → i < 72 * records tree → (s' : List ℕ) → s' ≡ set s i 0 → (k : ℕ) → k ≡ i + 1 → Cleared tree s₀ s' k
-    unfolding byte_at
-    clear_next room h s' e k ek = rw e (record {
-      same_length = length-set s i 0 ∙ c.same_length;
-      from = omega (arith, c.from);
-      to = omega arith;
-      below = λ j l. get_or-set_other s i j 0 0 (λ q. omega (arith, c.from)) ∙ c.below j l;
-      zero = λ j a b. tested (eqb j i)
-          (λ q. rw (eqb-true j i q) (get_or-set_same s i 0 0 (omega (arith, c.same_length))))
-          (λ q. get_or-set_other s i j 0 0 (λ z. eqb-false j i q (omega arith)) ∙ c.zero j a (omega (arith, eqb-false j i q)));
-    })
-
-    word-zero : (p : ℕ) → 64 * records tree ≤ p → p + 4 ≤ i → word_at s p ≡ 0
-    unfolding word_at
-    word-zero p a b =
-        rw (c.zero p a (omega arith), c.zero (p + 1) (omega arith) (omega arith), c.zero (p + 2) (omega arith) (omega arith), c.zero (p + 3) (omega arith) (omega arith))
-
-    pub clear_end : 72 * records tree ≤ i → Forgets tree s₀ s
-    unfolding turn_at visits_at
-    clear_end h = record {
-      same_length = c.same_length;
-      below = c.below;
-      turns = λ e l. word-zero (64 * records tree + 4 * e) (omega arith) (omega arith);
-      none_made = λ l. word-zero (68 * records tree) (omega arith) (omega arith);
-    }
+  pub forgotten : (ys : List ℕ) → ys ≡ replicate (length (take k (drop from s₀))) 0 → Forgets tree s₀ (put_mid from k s₀ ys)
+  forgotten ys e = rw (e, part_lem) clear_lem

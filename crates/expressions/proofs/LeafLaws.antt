@@ -1,5 +1,8 @@
 -- Types of literals, of names and of calls' values, as the code meets them.
 -- By the cases of nodes, the twelve first types, the open names one by one, and a function's word D. Assumes nothing.
+use Rattle.std.specs.Prelude.{Option as StdOption, Some, None, Ok, Err}
+use Rattle.expressions.specs.declared.answers.Callee as Code
+use Rattle.expressions.specs.Answers.{Answer}
 use mathlib.Core.Path.{◌≡◌, refl, sym, ap, ◌∙◌, subst}
 use mathlib.Core.Logic.{◌⊎◌, inl, inr}
 use mathlib.Core.Bool.{Bool, true, false}
@@ -24,12 +27,9 @@ use Rattle.conversion.specs.Ir.{same_text}
 use Rattle.conversion.specs.Scope as Def
 use Rattle.conversion.specs.Scope.{Variable, find_in, find_variable}
 use Rattle.conversion.specs.Expressions.{get_type, name_type, value_type, return_type}
-use Rattle.ir.specs.declared.structs.VarId.{VarId}
 use Rattle.scope.specs.declared.Scope.{Scope}
 use Rattle.scope.specs.declared.Known.{Known}
 use Rattle.scope.specs.Open.{open_variable, variables_at, variables_of, scope_at, IsFound, FindMeets}
-use Rattle.expressions.specs.declared.answers.ExprType.{ExprType}
-use Rattle.expressions.specs.declared.answers.Resolved.{Resolved}
 use Rattle.syntax.specs.Places.{IsExpr, IsKind, TypeAt, FunctionAt, function_of}
 use Rattle.expressions.specs.Slots.{type_in, Scoped}
 use Rattle.expressions.specs.Answers.{refusal, type_result, callee_of, value_result, IsTyped, IsCallee, TypeIs}
@@ -97,78 +97,78 @@ module _ (tree text : List ℕ) (good : Good tree text) (e : ℕ) (x : IsExpr tr
       (first 2 (omega arith), λ S. rw (expr_size_of tree text e eight))
 
 pub literal_leaf : (tree text s : List ℕ) (sc : Scope) (e y : ℕ) → TypeAt tree y × ((S : Def.Scope) → type_in tree text S e ≡ ok y)
-    → TypeIs tree (ExprType.Is y) (type_in tree text (scope_at tree text s sc) e)
+    → TypeIs tree (Ok y) (type_in tree text (scope_at tree text s sc) e)
 unfolding type_result
 literal_leaf tree text s sc e y h = record { is = h.1 (scope_at tree text s sc); type = IsTyped.is h.0 }
 
 -- ---- names
 
-module _ (v : VarId) (b : Bool) where
-  found_name : (e : ℕ) (o : Option Variable) → IsFound (Known.Is v b) o → name_type e o ≡ ok v.1
+module _ (k : Known) where
+  found_name : (e : ℕ) (o : Option Variable) → IsFound (Some k) o → name_type e o ≡ ok k.var.1
   unfolding IsFound name_type
   found_name e (some x) h = ap (λ (z : ℕ). ok z) (sym (ap (λ z. z.ty) h.0))
   found_name e nothing h = absurd h
 
   found-typed : (tree text s : List ℕ) (n : ℕ) (u : List ℕ) (m : ℕ) → ((j : ℕ) → j < m → TypeAt tree (word_at s (8 * n + 16 * j + 12) / 2))
-      → IsFound (Known.Is v b) (find_in u (variables_at text s n m)) → TypeAt tree v.1
+      → IsFound (Some k) (find_in u (variables_at text s n m)) → TypeAt tree k.var.1
   unfolding IsFound find_in variables_at
   found-typed tree text s n u zero t h = absurd h
   found-typed tree text s n u (suc m) t h =
       go (found-typed tree text s n u m (λ j k. t j (omega arith))) (same_text u (open_variable text s (8 * n + 16 * m)).name) h
     where
-      go : (IsFound (Known.Is v b) (find_in u (variables_at text s n m)) → TypeAt tree v.1)
-          → (c : Bool) → IsFound (Known.Is v b) (elim c [ true ↦ some (open_variable text s (8 * n + 16 * m)) | false ↦ find_in u (variables_at text s n m) ]) → TypeAt tree v.1
+      go : (IsFound (Some k) (find_in u (variables_at text s n m)) → TypeAt tree k.var.1)
+          → (c : Bool) → IsFound (Some k) (elim c [ true ↦ some (open_variable text s (8 * n + 16 * m)) | false ↦ find_in u (variables_at text s n m) ]) → TypeAt tree k.var.1
       go rest true f = subst (λ (z : ℕ). TypeAt tree z) (sym (ap (λ z. z.ty) f.0)) (t m (omega arith))
       go rest false f = rest f
 
-missing_name : (e : ℕ) (o : Option Variable) → IsFound Known.Unknown o → name_type e o ≡ err UnknownVariable e
+missing_name : (e : ℕ) (o : Option Variable) → IsFound None o → name_type e o ≡ err UnknownVariable e
 unfolding IsFound name_type
 missing_name e (some x) h = absurd h
 missing_name e nothing h = refl
 
 module _ (tree text s : List ℕ) (sc : Scope) (e : ℕ) (scoped : Scoped tree s sc) (k : IsKind tree 6 e)
-    (r : Known) (m : FindMeets text s sc (text_of tree text e A) r) where
+    (r : StdOption Known) (m : FindMeets text s sc (text_of tree text e A) r) where
   type-name : type_in tree text (scope_at tree text s sc) e ≡ name_type e (find_in (text_of tree text e A) (variables_of text s sc))
   unfolding type_in get_type find_variable scope_at
   type-name = rw (expr-name tree text e k.kind)
 
-  pub name-known : (v : VarId) (b : Bool) → r ≡ Known.Is v b
-      → TypeIs tree (ExprType.Is v.1) (type_in tree text (scope_at tree text s sc) e)
+  pub name-known : (v : Known) → r ≡ Some v
+      → TypeIs tree (Ok v.var.1) (type_in tree text (scope_at tree text s sc) e)
   unfolding type_result
-  name-known v b q =
-      let hit : IsFound (Known.Is v b) (find_in (text_of tree text e A) (variables_of text s sc)) =
-      subst (λ (z : Known). IsFound z (find_in (text_of tree text e A) (variables_of text s sc))) q m in record {
-        is = type-name ∙ found_name v b e (find_in (text_of tree text e A) (variables_of text s sc)) hit;
-        type = IsTyped.is (found-typed v b tree text s sc.records (text_of tree text e A) sc.names
+  name-known v q =
+      let hit : IsFound (Some v) (find_in (text_of tree text e A) (variables_of text s sc)) =
+      subst (λ (z : StdOption Known). IsFound z (find_in (text_of tree text e A) (variables_of text s sc))) q m in record {
+        is = type-name ∙ found_name v e (find_in (text_of tree text e A) (variables_of text s sc)) hit;
+        type = IsTyped.is (found-typed v tree text s sc.records (text_of tree text e A) sc.names
             (λ j h. subst (λ (z : ℕ). TypeAt tree (word_at s (8 * z + 16 * j + 12) / 2)) (sym scoped.records_are) (scoped.types j h)) hit);
       }
 
-  pub name_unknown : r ≡ Known.Unknown → (z : ExprType) → z ≡ ExprType.Refused (record { kind = UnknownVariable; place = e })
+  pub name_unknown : r ≡ None → (z : Answer ℕ) → z ≡ Err (record { kind = UnknownVariable; place = e })
       → TypeIs tree z (type_in tree text (scope_at tree text s sc) e)
   name_unknown q z w =
       refused-at tree (type_in tree text (scope_at tree text s sc) e) UnknownVariable e z
       (type-name ∙ missing_name e (find_in (text_of tree text e A) (variables_of text s sc))
-      (subst (λ (y : Known). IsFound y (find_in (text_of tree text e A) (variables_of text s sc))) q m)) w
+      (subst (λ (y : StdOption Known). IsFound y (find_in (text_of tree text e A) (variables_of text s sc))) q m)) w
 
 -- ---- what a call gives back
 
-module _ (tree text : List ℕ) (good : Good tree text) (e : ℕ) (c : Resolved) (is : IsCallee tree c) where
-  pub value-refused : (x : ConvertError) → c ≡ Resolved.Refused x → TypeIs tree (ExprType.Refused x) (value_result tree text e c)
+module _ (tree text : List ℕ) (good : Good tree text) (e : ℕ) (c : Answer Code.Callee) (is : IsCallee tree c) where
+  pub value-refused : (x : ConvertError) → c ≡ Err x → TypeIs tree (Err x) (value_result tree text e c)
   unfolding value_result callee_of type_result refusal ◌>>=◌
   value-refused x q = record { is = rw q; type = IsTyped.no }
 
-  pub value-cast : (y : ℕ) → c ≡ Resolved.Cast y → TypeIs tree (ExprType.Is y) (value_result tree text e c)
+  pub value-cast : (y : ℕ) → c ≡ Ok (Code.Callee.Cast y) → TypeIs tree (Ok y) (value_result tree text e c)
   unfolding value_result callee_of type_result ◌>>=◌ value_type return_type
-  value-cast y q = record { is = rw q; type = IsTyped.is (go (subst (λ (z : Resolved). IsCallee tree z) q is)) }
+  value-cast y q = record { is = rw q; type = IsTyped.is (go (subst (λ (z : Answer Code.Callee). IsCallee tree z) q is)) }
     where
-      go : IsCallee tree (Resolved.Cast y) → TypeAt tree y
+      go : IsCallee tree (Ok (Code.Callee.Cast y)) → TypeAt tree y
       go (IsCallee.a_cast t) = t
 
-  module _ (f : ℕ) (q : c ≡ Resolved.Function f) where
+  module _ (f : ℕ) (q : c ≡ Ok (Code.Callee.Function f)) where
     pub callee-function : FunctionAt tree f
-    callee-function = go (subst (λ (z : Resolved). IsCallee tree z) q is)
+    callee-function = go (subst (λ (z : Answer Code.Callee). IsCallee tree z) q is)
       where
-        go : IsCallee tree (Resolved.Function f) → FunctionAt tree f
+        go : IsCallee tree (Ok (Code.Callee.Function f)) → FunctionAt tree f
         go (IsCallee.a_function t) = t
 
     pub function-inside : f * 32 + 32 ≤ length tree
@@ -178,12 +178,12 @@ module _ (tree text : List ℕ) (good : Good tree text) (e : ℕ) (c : Resolved)
     returns-type = function-return tree text good f callee-function
 
     module _ (y : ℕ) (ey : y ≡ word_of tree f D) where
-      pub value_none : y ≡ none → (a : ExprType) → a ≡ ExprType.Refused (record { kind = NoValue; place = e }) → TypeIs tree a (value_result tree text e c)
+      pub value_none : y ≡ none → (a : Answer ℕ) → a ≡ Err (record { kind = NoValue; place = e }) → TypeIs tree a (value_result tree text e c)
       unfolding value_result callee_of ◌>>=◌ value_type return_type reference pick
       value_none n a w =
           refused-at tree (value_result tree text e c) NoValue e a (rw (q, returns-type, eq-eqb (word_of tree f D) none (sym ey ∙ n))) w
 
-      pub value_some : (y ≡ none → ⊥) → TypeIs tree (ExprType.Is y) (value_result tree text e c)
+      pub value_some : (y ≡ none → ⊥) → TypeIs tree (Ok y) (value_result tree text e c)
       unfolding value_result callee_of ◌>>=◌ value_type return_type reference pick type_result
       value_some n = record {
         is = rw (q, returns-type, ne_eqb (word_of tree f D) none (λ z. n (ey ∙ z))) (ap (λ (z : ℕ). ok z) (sym ey));

@@ -1,6 +1,6 @@
 -- The digest of a verb with its suffixes goes on from the verb's: what was asked is the digest at hand, gone on over the suffixes that are left.
 -- By the law of texts one behind the other, cell by cell. Assumes nothing.
-use mathlib.Core.Path.{◌≡◌, refl, sym, ap, ap₂, ◌∙◌}
+use mathlib.Core.Path.{◌≡◌, sym, ap, ap₂, ◌∙◌}
 use mathlib.Core.List.{List, [], ◌∷◌}
 use Prim.Native.Nat.{ℕ, ◌<◌}
 use lib.ListN.{take}
@@ -30,9 +30,6 @@ pub record Rolled (tree text s : List ℕ) (d₀ first d w : ℕ) : Type 0 where
   pub asked : roll_from d₀ (Behind tree text s (suffixes_at tree text s first)) ≡ roll_from d (Behind tree text s (suffixes_at tree text s w))
 
 module _ (tree text s : List ℕ) where
-  pub rolled_start : (d₀ first : ℕ) → Argued tree text s first → d₀ < 4294967291 → Rolled tree text s d₀ first d₀ first
-  rolled_start d₀ first a h = record { argued = a; small = h; asked = refl }
-
   module _ (d₀ first d w : ℕ) (h : Rolled tree text s d₀ first d w) where
     pub rolled-more : (y : ℕ) (p : Part) → First tree text s w y → PartIs text p (key_at tree text y) → (x : ℕ) → x ≡ roll_step d 36 → (r : ℕ)
         → (r ≡ roll_from x (text_at text p.offset p.len)) × (r < 4294967291) → Rolled tree text s d₀ first r (word_of tree w B)

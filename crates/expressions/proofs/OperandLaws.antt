@@ -1,5 +1,7 @@
 -- The rules of operators as the code meets them: classes of operands, one operand, two operands, their common type, and what is refused.
 -- By the form of a type, by the cases of a class, and by the tests' answers one after the other. Assumes nothing.
+use Rattle.std.specs.Prelude.{Option as StdOption, Some, None, Ok, Err}
+use Rattle.expressions.specs.Answers.{Answer}
 use mathlib.Core.Path.{◌≡◌, refl, sym, ap, ◌∙◌, subst}
 use mathlib.Core.Bool.{Bool, true, false}
 use mathlib.Core.List.{List, [], ◌∷◌}
@@ -18,11 +20,11 @@ use Rattle.syntax.specs.Decode.{bit, text_of, wide_of, program, type_at}
 use Rattle.conversion.specs.ConvertError.{ConvertErrorKind, Result, err, WrongOperands, LiteralOutOfRange}
 use Rattle.conversion.specs.Types.{is_int, on_int, is_number, fits, range_error}
 use Rattle.conversion.specs.Expressions.{OperandClass, Bools, Any, Numbers, Integers, operand_class, gives_bool, filter_option, common_of, accepts_unary, accepts_class, unary_type, binary_error, accepted, binary_type}
-use Rattle.records.specs.declared.words.Found.{Found}
 use Rattle.types.specs.Fits.{IsType, fits_at, range_error_at}
-use Rattle.types.specs.Operators.{class_number, result_number}
+use Rattle.types.specs.Operators.{class_of, result_of}
+use Rattle.types.specs.declared.operators.OperandClass as CodeClass
+use Rattle.types.specs.declared.operators.ResultClass.{ResultClass}
 use Rattle.types.proofs.FromGood.{is-type}
-use Rattle.expressions.specs.declared.answers.ExprType.{ExprType}
 use Rattle.expressions.specs.declared.operands.Sides.{Sides}
 use Rattle.syntax.specs.Places.{IsExpr, IsKind, TypeAt, expr_at}
 use Rattle.keys.specs.Keys.{all_keys}
@@ -31,14 +33,14 @@ use Rattle.expressions.proofs.PartLaws.{first_kind}
 use Rattle.expressions.proofs.TypingLaws.{place_is, found-is}
 
 -- a refusal as the answer
-pub refused-at : (tree : List ℕ) (m : Result ℕ) (k : ConvertErrorKind) (p : ℕ) (a : ExprType) → m ≡ err k p → a ≡ ExprType.Refused (record { kind = k; place = p })
+pub refused-at : (tree : List ℕ) (m : Result ℕ) (k : ConvertErrorKind) (p : ℕ) (a : Answer ℕ) → m ≡ err k p → a ≡ Err (record { kind = k; place = p })
     → TypeIs tree a m
 unfolding type_result refusal
-refused-at tree m k p a e q = record { is = e ∙ sym (ap type_result q); type = subst (λ (z : ExprType). IsTyped tree z) (sym q) IsTyped.no }
+refused-at tree m k p a e q = record { is = e ∙ sym (ap type_result q); type = subst (λ (z : Answer ℕ). IsTyped tree z) (sym q) IsTyped.no }
 
 -- a type that was found
-pub found_type_lem : (tree : List ℕ) (f : Found) (y : ℕ) → TypeFound tree f → f ≡ Found.At y → TypeAt tree y
-found_type_lem tree f y t q = found-is (subst (λ (z : Found). TypeFound tree z) q t)
+pub found_type_lem : (tree : List ℕ) (f : StdOption ℕ) (y : ℕ) → TypeFound tree f → f ≡ Some y → TypeAt tree y
+found_type_lem tree f y t q = found-is (subst (λ (z : StdOption ℕ). TypeFound tree z) q t)
 
 -- two expressions with their types, put together
 pub operands-are : (tree : List ℕ) (s : Sides) (a l b r : ℕ) → s ≡ record { left = a; left_type = l; right = b; right_type = r }
@@ -59,7 +61,33 @@ module _ (tree text : List ℕ) (good : Good tree text) where
   pub type_of_lem : (y : ℕ) → TypeAt tree y → IsType tree y
   type_of_lem y t = is-type tree text good y t.below t.kind
 
--- ---- classes of operands
+-- ---- classes of operands and of results
+
+-- different classes of the definition are different in the code
+class_back : CodeClass.OperandClass → OperandClass
+class_back CodeClass.OperandClass.Bools = Bools
+class_back CodeClass.OperandClass.Any = Any
+class_back CodeClass.OperandClass.Numbers = Numbers
+class_back CodeClass.OperandClass.Integers = Integers
+
+there_and_back : (c : OperandClass) → class_back (class_of c) ≡ c
+unfolding class_back
+there_and_back Bools = refl
+there_and_back Any = refl
+there_and_back Numbers = refl
+there_and_back Integers = refl
+
+one_class : (c k : OperandClass) → class_of c ≡ class_of k → c ≡ k
+one_class c k e = sym (there_and_back c) ∙ ap class_back e ∙ there_and_back k
+
+result_back : ResultClass → Bool
+result_back ResultClass.Common = false
+result_back ResultClass.Bool = true
+
+result_is : (r : ResultClass) (g : Bool) → r ≡ result_of g → g ≡ result_back r
+unfolding result_back
+result_is r true e = sym (ap result_back e)
+result_is r false e = sym (ap result_back e)
 
 -- among the forms only the first is an Int
 int_entry : (p q : Bool) (u n : ℕ) (t : Text) (f : ℕ)
@@ -83,36 +111,10 @@ module _ (tree text : List ℕ) (y : ℕ) where
   int_form f e = rw e
       (int_entry (bit 16 (detail_of tree y)) (bit 32 (detail_of tree y)) (word_of tree y A) (wide_of tree text y B) (text_of tree text y A) (detail_of tree y % 16))
 
-  module _ (class : ℕ) where
-    pub accepts_bools : class ≡ 0 → (c : OperandClass) → class ≡ class_number c → eqb y 6 ≡ accepts_class (program tree text) (all_keys tree text) c y
-    unfolding accepts_class
-    accepts_bools q Bools e = refl
-    accepts_bools q Any e = absurd (omega arith)
-    accepts_bools q Numbers e = absurd (omega arith)
-    accepts_bools q Integers e = absurd (omega arith)
-
-    pub accepts_any : class ≡ 1 → (c : OperandClass) → class ≡ class_number c → true ≡ accepts_class (program tree text) (all_keys tree text) c y
-    unfolding accepts_class
-    accepts_any q Bools e = absurd (omega arith)
-    accepts_any q Any e = refl
-    accepts_any q Numbers e = absurd (omega arith)
-    accepts_any q Integers e = absurd (omega arith)
-
-    pub accepts_numbers : class ≡ 2 → (b : Bool) → ((text' : List ℕ) → b ≡ is_number (type_at tree text' y))
-        → (c : OperandClass) → class ≡ class_number c → b ≡ accepts_class (program tree text) (all_keys tree text) c y
-    unfolding accepts_class program
-    accepts_numbers q b h Bools e = absurd (omega arith)
-    accepts_numbers q b h Any e = absurd (omega arith)
-    accepts_numbers q b h Numbers e = h text
-    accepts_numbers q b h Integers e = absurd (omega arith)
-
-    pub accepts_integers : (class ≡ 0 → ⊥) → (class ≡ 1 → ⊥) → (class ≡ 2 → ⊥) → (f : ℕ) → f ≡ detail_of tree y % 16
-        → (c : OperandClass) → class ≡ class_number c → eqb f 1 ≡ accepts_class (program tree text) (all_keys tree text) c y
-    unfolding accepts_class program
-    accepts_integers n₀ n₁ n₂ f ef Bools e = absurd (n₀ e)
-    accepts_integers n₀ n₁ n₂ f ef Any e = absurd (n₁ e)
-    accepts_integers n₀ n₁ n₂ f ef Numbers e = absurd (n₂ e)
-    accepts_integers n₀ n₁ n₂ f ef Integers e = int_form f ef
+  -- the class in the code is the definition's k
+  pub accepts_as : (class : CodeClass.OperandClass) (k : OperandClass) → class ≡ class_of k → (b : Bool)
+      → b ≡ accepts_class (program tree text) (all_keys tree text) k y → Accepts tree text class y b
+  accepts_as class k q b h c e = h ∙ ap (λ (z : OperandClass). accepts_class (program tree text) (all_keys tree text) z y) (one_class k c (sym q ∙ e))
 
   -- one operand
   pub unary_int : (op : ℕ) → op ≡ 1 → (f : ℕ) → f ≡ detail_of tree y % 16 → eqb f 1 ≡ accepts_unary (program tree text) (all_keys tree text) (get_or unary_ops op Neg) y
@@ -136,11 +138,11 @@ module _ (tree text : List ℕ) (y : ℕ) where
     tested-by = sym (eb ∙ ap (λ (z : ℕ). accepts_unary (program tree text) (all_keys tree text) (get_or unary_ops z Neg) y) ed)
 
     pub unary-taken : b ≡ true → TypeAt tree y
-        → TypeIs tree (ExprType.Is y) (unary_type (program tree text) (all_keys tree text) e (get_or unary_ops (detail_of tree e) Neg) y)
+        → TypeIs tree (Ok y) (unary_type (program tree text) (all_keys tree text) e (get_or unary_ops (detail_of tree e) Neg) y)
     unfolding unary_type pick type_result
     unary-taken q t = record { is = rw (tested-by ∙ q); type = IsTyped.is t }
 
-    pub unary-refused : b ≡ false → (a : ExprType) → a ≡ ExprType.Refused (record { kind = WrongOperands; place = e })
+    pub unary-refused : b ≡ false → (a : Answer ℕ) → a ≡ Err (record { kind = WrongOperands; place = e })
         → TypeIs tree a (unary_type (program tree text) (all_keys tree text) e (get_or unary_ops (detail_of tree e) Neg) y)
     unfolding unary_type pick
     unary-refused q a w =
@@ -163,7 +165,7 @@ module _ (tree text : List ℕ) (good : Good tree text) (s : Sides) (o : Operand
     unfolding fits_at expr_at program
     right-test = sym (eb text)
 
-    pub common-left : b ≡ true → FoundIs tree (Found.At s.left_type) common
+    pub common-left : b ≡ true → FoundIs tree (Some s.left_type) common
     unfolding common_of pick found_number
     common-left q = record { is = rw (right-test ∙ q); type = TypeFound.a_type o.left_type }
 
@@ -172,11 +174,11 @@ module _ (tree text : List ℕ) (good : Good tree text) (s : Sides) (o : Operand
       unfolding fits_at expr_at program
       left-test = sym (ec text)
 
-      pub common-right : c ≡ true → FoundIs tree (Found.At s.right_type) common
+      pub common-right : c ≡ true → FoundIs tree (Some s.right_type) common
       unfolding common_of pick found_number
       common-right p = record { is = rw (right-test ∙ q, left-test ∙ p); type = TypeFound.a_type o.right_type }
 
-      pub common-none : c ≡ false → FoundIs tree Found.Nothing common
+      pub common-none : c ≡ false → FoundIs tree None common
       unfolding common_of pick found_number
       common-none p = record { is = rw (right-test ∙ q, left-test ∙ p); type = TypeFound.no_type }
 
@@ -190,7 +192,7 @@ module _ (tree text : List ℕ) (good : Good tree text) (s : Sides) (o : Operand
       unfolding range_error_at expr_at program
       right_range = sym (eb text)
 
-      pub error-right : b ≡ true → (a : ExprType) → a ≡ ExprType.Refused (record { kind = LiteralOutOfRange; place = s.right }) → TypeIs tree a error
+      pub error-right : b ≡ true → (a : Answer ℕ) → a ≡ Err (record { kind = LiteralOutOfRange; place = s.right }) → TypeIs tree a error
       unfolding binary_error pick
       error-right q a w =
           refused-at tree error LiteralOutOfRange s.right a
@@ -201,13 +203,13 @@ module _ (tree text : List ℕ) (good : Good tree text) (s : Sides) (o : Operand
         unfolding range_error_at expr_at program
         left_range = sym (ec text)
 
-        pub error-left : c ≡ true → (a : ExprType) → a ≡ ExprType.Refused (record { kind = LiteralOutOfRange; place = s.left }) → TypeIs tree a error
+        pub error-left : c ≡ true → (a : Answer ℕ) → a ≡ Err (record { kind = LiteralOutOfRange; place = s.left }) → TypeIs tree a error
         unfolding binary_error pick
         error-left p a w =
             refused-at tree error LiteralOutOfRange s.left a
             (rw (right_range ∙ q, left_range ∙ p) (ap (λ (z : ℕ). err LiteralOutOfRange z) (place_is tree text good s.left o.left))) w
 
-        pub error-rest : c ≡ false → (a : ExprType) → a ≡ ExprType.Refused (record { kind = WrongOperands; place = e }) → TypeIs tree a error
+        pub error-rest : c ≡ false → (a : Answer ℕ) → a ≡ Err (record { kind = WrongOperands; place = e }) → TypeIs tree a error
         unfolding binary_error pick
         error-rest p a w = refused-at tree error WrongOperands e a (rw (right_range ∙ q, left_range ∙ p)) w
 
@@ -222,20 +224,21 @@ module _ (tree text : List ℕ) (good : Good tree text) (s : Sides) (o : Operand
       abbrev whole : Result ℕ
       whole = binary_type (program tree text) (all_keys tree text) e op (expr_at tree text s.left) s.left_type (expr_at tree text s.right) s.right_type
 
-      module _ (cl rs : ℕ) (ops : (cl ≡ class_number (operand_class (get_or binary_ops d Or))) × (rs ≡ result_number (gives_bool (get_or binary_ops d Or))))
-          (f : Found) (ef : FoundIs tree f common) where
-        class_is : cl ≡ class_number (operand_class op)
-        class_is = ops.0 ∙ ap (λ (z : ℕ). class_number (operand_class (get_or binary_ops z Or))) ed
+      module _ (cl : CodeClass.OperandClass) (rs : ResultClass)
+          (ops : (cl ≡ class_of (operand_class (get_or binary_ops d Or))) × (rs ≡ result_of (gives_bool (get_or binary_ops d Or))))
+          (f : StdOption ℕ) (ef : FoundIs tree f common) where
+        class_is : cl ≡ class_of (operand_class op)
+        class_is = ops.0 ∙ ap (λ (z : ℕ). class_of (operand_class (get_or binary_ops z Or))) ed
 
-        result-is : rs ≡ result_number (gives_bool op)
-        result-is = ops.1 ∙ ap (λ (z : ℕ). result_number (gives_bool (get_or binary_ops z Or))) ed
+        gives : gives_bool op ≡ result_back rs
+        gives = result_is rs (gives_bool op) (ops.1 ∙ ap (λ (z : ℕ). result_of (gives_bool (get_or binary_ops z Or))) ed)
 
         -- no common type
-        pub none-common : f ≡ Found.Nothing → (a : ExprType) → TypeIs tree a error → TypeIs tree a whole
+        pub none-common : f ≡ None → (a : Answer ℕ) → TypeIs tree a error → TypeIs tree a whole
         unfolding binary_type accepted filter_option found_number
         none-common q a h = record { is = rw (sym ef.is ∙ ap found_number q) h.is; type = h.type }
 
-        module _ (y : ℕ) (q : f ≡ Found.At y) (b : Bool)
+        module _ (y : ℕ) (q : f ≡ Some y) (b : Bool)
             (eb : Accepts tree text cl y b) where
           found : common ≡ some y
           unfolding found_number
@@ -244,29 +247,21 @@ module _ (tree text : List ℕ) (good : Good tree text) (s : Sides) (o : Operand
           taken : accepts_class (program tree text) (all_keys tree text) (operand_class op) y ≡ b
           taken = sym (eb (operand_class op) class_is)
 
-          pub not_taken : b ≡ false → (a : ExprType) → TypeIs tree a error → TypeIs tree a whole
+          pub not_taken : b ≡ false → (a : Answer ℕ) → TypeIs tree a error → TypeIs tree a whole
           unfolding binary_type accepted filter_option pick
           not_taken n a h = record { is = rw (found, taken ∙ n) h.is; type = h.type }
 
           module _ (t : b ≡ true) where
-            bool-result : (g : Bool) → rs ≡ result_number g → rs ≡ 1 → g ≡ true
-            bool-result true h z = refl
-            bool-result false h z = absurd (omega arith)
-
-            common_result_lem : (g : Bool) → rs ≡ result_number g → (rs ≡ 1 → ⊥) → g ≡ false
-            common_result_lem true h z = absurd (z h)
-            common_result_lem false h z = refl
-
-            pub gives_bool_lem : rs ≡ 1 → TypeIs tree (ExprType.Is 6) whole
-            unfolding binary_type accepted filter_option pick type_result
+            pub gives_bool_lem : rs ≡ ResultClass.Bool → TypeIs tree (Ok 6) whole
+            unfolding binary_type accepted filter_option pick type_result result_back
             gives_bool_lem z = record {
-              is = rw (found, taken ∙ t, bool-result (gives_bool op) result-is z);
+              is = rw (found, taken ∙ t, gives ∙ ap result_back z);
               type = IsTyped.is (first-type tree text good e k.below (λ w. omega (arith, k.kind)) 6 (omega arith));
             }
 
-            pub gives-common : (rs ≡ 1 → ⊥) → TypeIs tree (ExprType.Is y) whole
-            unfolding binary_type accepted filter_option pick type_result
+            pub gives-common : rs ≡ ResultClass.Common → TypeIs tree (Ok y) whole
+            unfolding binary_type accepted filter_option pick type_result result_back
             gives-common z = record {
-              is = rw (found, taken ∙ t, common_result_lem (gives_bool op) result-is z);
+              is = rw (found, taken ∙ t, gives ∙ ap result_back z);
               type = IsTyped.is (found_type_lem tree f y ef.type q);
             }

@@ -1,5 +1,6 @@
 -- Names by the lowest record with the text: its words A and B say the name's text, and tell it from the open names, and its slot tells where it stands; so what is
 -- found by them, or declaring them leaves, is that of the name. By the laws of the texts' numbers. Assumes nothing.
+use Rattle.std.specs.Prelude.{Option as StdOption}
 use mathlib.Core.Path.{◌≡◌, refl, sym, ap, ◌∙◌, subst}
 use mathlib.Core.Bool.{Bool, true}
 use mathlib.Core.List.{List}
@@ -20,7 +21,6 @@ use Rattle.texts.proofs.TextLaws.{original-below, original-text, same-original, 
 use Rattle.ir.specs.declared.structs.VarId.{VarId}
 use Rattle.scope.specs.declared.Scope.{Scope}
 use Rattle.scope.specs.declared.Known.{Known}
-use Rattle.scope.specs.declared.Declared.{Declared}
 use Rattle.scope.specs.Open.{name_is, words_are, name_slot_at, ToldApart, SlotTells, FindMeets, FindsTold, DeclareMeets, DeclaresTold}
 use Rattle.expressions.specs.Slots.{original_of, original_word, Original, Scoped, Asked, Ready}
 
@@ -127,11 +127,11 @@ module _ {tree text s : List ℕ} {sc : Scope} {r : ℕ} (q : Asked tree text s 
       is-length : n ≡ original_word tree s r B
       is-length = en ∙ ap (λ (z : ℕ). word_of tree z B) number_is
 
-      pub origin_found : (k : Known) → FindsTold s sc o a n k → FindMeets text s sc (text_of tree text r A) k
+      pub origin_found : (k : StdOption Known) → FindsTold s sc o a n k → FindMeets text s sc (text_of tree text r A) k
       origin_found k m =
           subst (λ (u : List ℕ). FindMeets text s sc u k) origin_text
           ((rw (number_is, is-offset, is-length) at m) text told-words told-slot)
 
-      pub origin_declared : (v : VarId) (constant : Bool) (s' : List ℕ) (d : Declared) → DeclaresTold o a n v constant sc s s' d
+      pub origin_declared : (v : VarId) (constant : Bool) (s' : List ℕ) (d : StdOption Scope) → DeclaresTold o a n v constant sc s s' d
           → DeclareMeets text (original_of tree s r) (original_word tree s r A) (original_word tree s r B) v constant sc s s' d
       origin_declared v constant s' d m = (rw (number_is, is-offset, is-length) at m) text told-words told-slot

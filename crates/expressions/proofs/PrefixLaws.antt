@@ -1,5 +1,7 @@
 -- The longest prefix with `$...`: a key compared with one, and each prefix looked for from the shortest on. What was asked is what is left, or else the best so far.
 -- By the definition's own steps, one suffix at a time. Assumes nothing.
+use Rattle.std.specs.Prelude.{Option as StdOption, Some, None}
+use Rattle.std.specs.Option.{option_or}
 use mathlib.Core.Path.{◌≡◌, refl, sym, ap, ap₂, ◌∙◌}
 use mathlib.Core.Bool.{Bool, true, false, not, ◌&&◌, false≢true}
 use mathlib.Core.List.{List, [], ◌∷◌, ◌++◌}
@@ -12,7 +14,6 @@ use Rattle.laws.specs.Below.{or_else}
 use Rattle.records.specs.Digest.{roll_step, roll_from, roll_of}
 use Rattle.records.specs.Words as Words
 use Rattle.records.specs.Words.{text_at, word_of, most_records, B}
-use Rattle.records.specs.declared.words.Found.{Found}
 use Rattle.records.specs.declared.shape.Role.TheVariants.{Arguments}
 use Rattle.records.proofs.RollLaws.{roll_append, text_split}
 use Rattle.records.proofs.TextLaws.{other-lengths}
@@ -25,7 +26,7 @@ use Rattle.keys.specs.Parts.{PartIs}
 use Rattle.keys.specs.Keys.{all_keys, function_found, FunctionFound, FunctionIs, none_found}
 use Rattle.syntax.proofs.Lists.{left, left-most}
 use Rattle.expressions.specs.declared.arguments.Call.{Call}
-use Rattle.expressions.specs.Calls.{suffixes_at, verb_of, name_of, Argued, Called, by_marked, later_of}
+use Rattle.expressions.specs.Calls.{suffixes_at, verb_of, name_of, Argued, Called, by_marked}
 use Rattle.expressions.proofs.NameLaws.{same-append, part_length, count-suffixes}
 use Rattle.expressions.proofs.SuffixLaws.{First, Next, next-is, no-suffixes, key_size}
 
@@ -96,18 +97,15 @@ unfolding or_else
 or-or none b c = refl
 or-or (some x) b c = refl
 
-pub later_at : (first then : Found) (f : ℕ) → then ≡ Found.At f → Found.At f ≡ later_of first then
-later_at first then f e = ap (later_of first) (sym e)
-
 module _ (tree text : List ℕ) where
-  later_is : (first then : Found) → function_found tree text (later_of first then) ≡ or_else (function_found tree text then) (function_found tree text first)
+  later_is : (first then : StdOption ℕ) → function_found tree text (option_or then first) ≡ or_else (function_found tree text then) (function_found tree text first)
   unfolding function_found or_else
-  later_is first (Found.At f) = refl
-  later_is first Found.Nothing = refl
+  later_is first (Some f) = refl
+  later_is first None = refl
 
-  later_function : (first then : Found) → FunctionFound tree first → FunctionFound tree then → FunctionFound tree (later_of first then)
-  later_function first (Found.At f) a b = b
-  later_function first Found.Nothing a b = a
+  later_function : (first then : StdOption ℕ) → FunctionFound tree first → FunctionFound tree then → FunctionFound tree (option_or then first)
+  later_function first (Some f) a b = b
+  later_function first None a b = a
 
 -- one suffix more
 module _ (P : Program) (F : Functions) where
@@ -119,7 +117,7 @@ module _ (P : Program) (F : Functions) where
   joined-more v (a ∷ l) (suc k) x r e = joined-more (v ++ a) l k x r e
 
 -- k suffixes were passed, up to cell w; d and `size` are digest and length of the verb with them
-pub record Prefixed (tree text s : List ℕ) (c : Call) (best : Found) (d size w k : ℕ) : Type 0 where
+pub record Prefixed (tree text s : List ℕ) (c : Call) (best : StdOption ℕ) (d size w k : ℕ) : Type 0 where
   pub argued : Argued tree text s w
   pub here : drop k (suffixes_at tree text s c.first) ≡ suffixes_at tree text s w
   pub number : k ≤ c.count
@@ -133,7 +131,7 @@ pub record Prefixed (tree text s : List ℕ) (c : Call) (best : Found) (d size w
       ≡ or_else (variadic_function (program tree text) (all_keys tree text) (name_of tree text s c k) (suffixes_at tree text s w)) (function_found tree text best)
 
 module _ (tree text s : List ℕ) (c : Call) (h : Called tree text s c) where
-  pub prefix_start : (d : ℕ) → (d ≡ roll_from 1 (verb_of tree text s c)) × (d < 4294967291) → Prefixed tree text s c Found.Nothing d c.len c.first 0
+  pub prefix_start : (d : ℕ) → (d ≡ roll_from 1 (verb_of tree text s c)) × (d < 4294967291) → Prefixed tree text s c None d c.len c.first 0
   unfolding name_of joined function_found
   prefix_start d e = record {
     argued = h.argued;
@@ -148,14 +146,14 @@ module _ (tree text s : List ℕ) (c : Call) (h : Called tree text s c) where
     asked = sym (or-none (variadic_function (program tree text) (all_keys tree text) (verb_of tree text s c) (suffixes_at tree text s c.first)));
   }
 
-  module _ (best : Found) (d size w k : ℕ) (x : Prefixed tree text s c best d size w k) where
+  module _ (best : StdOption ℕ) (d size w k : ℕ) (x : Prefixed tree text s c best d size w k) where
     pub prefix_marked : (m : ℕ) → m ≡ roll_from d variadic_mark → m ≡ roll_of (name_of tree text s c k ++ variadic_mark)
     prefix_marked m e = e ∙ ap (λ (z : ℕ). roll_from z variadic_mark) x.digest ∙ sym (roll_append 1 (name_of tree text s c k) variadic_mark)
 
-    module _ (found : Found) (is : FunctionIs tree text found (by_marked tree text s c k)) where
+    module _ (found : StdOption ℕ) (is : FunctionIs tree text found (by_marked tree text s c k)) where
       -- at the last cell
       pub prefix_end : w ≡ Words.none
-          → FunctionIs tree text (later_of best found) (variadic_function (program tree text) (all_keys tree text) (verb_of tree text s c) (suffixes_at tree text s c.first))
+          → FunctionIs tree text (option_or found best) (variadic_function (program tree text) (all_keys tree text) (verb_of tree text s c) (suffixes_at tree text s c.first))
       unfolding variadic_function
       prefix_end e = record {
         is =
@@ -179,7 +177,7 @@ module _ (tree text s : List ℕ) (c : Call) (h : Called tree text s c) where
             (suffixes_at tree text s (word_of tree w B)) (x.here ∙ f.is)
 
         pub prefix_more : (z r : ℕ) → z ≡ roll_step d 36 → (r ≡ roll_from z (text_at text p.offset p.len)) × (r < 4294967291)
-            → Prefixed tree text s c (later_of best found) r (size + 1 + p.len) (word_of tree w B) (k + 1)
+            → Prefixed tree text s c (option_or found best) r (size + 1 + p.len) (word_of tree w B) (k + 1)
         unfolding roll_from variadic_function
         prefix_more z r ez er = record {
           argued = f.rest;

@@ -167,12 +167,6 @@ module _ (tree text s : List ℕ) (first k at : ℕ) where
   abbrev Asked : Bool
   Asked = suffixes_stand tree text s first k at
 
-  pub match_start : Argued tree text s first → k ≤ length (suffixes_at tree text s first) → at + bytes_in (take k (suffixes_at tree text s first)) ≤ length text
-      → Matched tree text s first k at at first 0
-  match_start a m room =
-      let z : k - 0 ≡ k = omega arith in
-      record { argued = a; most = omega arith; inside = omega arith; room = rw z room; asked = rw z refl }
-
   module _ (here w i : ℕ) (h : Matched tree text s first k at here w i) where
     pub match_cell : i < k → w ≡ none → ⊥
     match_cell m e = omega (arith, h.inside, ap length (no-suffixes tree text s w h.argued.good e))

@@ -1,5 +1,7 @@
 -- What a turn remembers: nothing typed, one list of records typed after another, a type that was remembered, and a visit.
 -- By the words of scratch that a visit writes, and by sums over all records. Assumes nothing.
+use Rattle.std.specs.Prelude.{Ok}
+use Rattle.expressions.specs.Answers.{Answer}
 use mathlib.Core.Path.{◌≡◌, refl, sym, ap, ◌∙◌, subst}
 use mathlib.Core.Logic.{◌⊎◌, inl, inr}
 use mathlib.Core.Bool.{Bool, true, false, ◌||◌}
@@ -26,7 +28,6 @@ use Rattle.syntax.specs.Places.{IsExpr, TypeAt, expr_at}
 use Rattle.scope.specs.declared.Scope.{Scope}
 use Rattle.scope.specs.Open.{scope_at}
 use Rattle.expressions.specs.Slots.{slot_at, turn_at, visits_at, beside_at, in_turn, made, after_visit, Frame, type_in, Beside, RightAt, Remembers, Typed, Typing}
-use Rattle.expressions.specs.declared.answers.ExprType.{ExprType}
 use Rattle.expressions.specs.Answers.{type_result, TypeMeets}
 use Rattle.expressions.proofs.SlotLaws.{put_long, put_byte, put_other, put_here, scope-frame, ready-frame}
 use Rattle.expressions.proofs.PartLaws.{expr-low, expr-behind, own-exprs, own-apart}
@@ -378,9 +379,9 @@ module _ (tree text s : List ℕ) (sc : Scope) (turn : ℕ) (k : Typing tree tex
   }
 
   -- so what typing owes after an earlier typing it owes in the scope before that
-  module _ (e : ℕ) (a : ExprType) (s₂ : List ℕ) (m : TypeMeets tree text s₁ sc turn e a s₂) where
+  module _ (e : ℕ) (a : Answer ℕ) (s₂ : List ℕ) (m : TypeMeets tree text s₁ sc turn e a s₂) where
     pub later_type : type_in tree text (scope_at tree text s sc) e ≡ type_result a
     later_type = rw (← same-scope) m.meets
 
-    pub later_adds : (y : ℕ) → a ≡ ExprType.Is y → Typed tree text (scope_at tree text s sc) turn s₁ (exprs (expr_at tree text e)) s₂
+    pub later_adds : (y : ℕ) → a ≡ Ok y → Typed tree text (scope_at tree text s sc) turn s₁ (exprs (expr_at tree text e)) s₂
     later_adds y q = rw (← same-scope) (m.adds y q)

@@ -1,5 +1,9 @@
 -- The type of an expression by its kind, and what typing owes after each call: a refusal is passed on, a type goes into the rule of the operator, and is remembered.
 -- By the cases of nodes and the laws of turns, in the scope that the open names stand for. Assumes nothing.
+use Rattle.std.specs.Prelude.{Option as StdOption, Some, None, Ok, Err}
+use Rattle.std.specs.Option.{unwrap_or}
+use Rattle.expressions.specs.declared.answers.Callee as Code
+use Rattle.expressions.specs.Answers.{Answer}
 use mathlib.Core.Path.{◌≡◌, refl, sym, ap, ◌∙◌, subst}
 use mathlib.Core.Bool.{Bool, true, false}
 use mathlib.Core.Logic.{◌⊎◌, inl, inr}
@@ -25,20 +29,15 @@ use Rattle.conversion.specs.ConvertError.{ConvertErrorKind, Result, ok, err, ◌
 use Rattle.conversion.specs.Types.{range_error}
 use Rattle.conversion.specs.Scope as Def
 use Rattle.conversion.specs.Expressions.{Callee, get_type, get_argument_types, resolve_call, resolve_typed, filter_option, common_of, unary_type, accepted, binary_error, binary_type, value_type, return_type, common_type}
-use Rattle.records.specs.declared.words.Found.{Found}
 use Rattle.scope.specs.declared.Scope.{Scope}
 use Rattle.scope.specs.Open.{scope_at}
 use Rattle.types.proofs.FromGood.{is_expr_lem}
-use Rattle.expressions.specs.declared.answers.Outcome.{Outcome}
-use Rattle.expressions.specs.declared.answers.ExprType.{ExprType}
-use Rattle.expressions.specs.declared.answers.Common.{Common}
-use Rattle.expressions.specs.declared.answers.Resolved.{Resolved}
 use Rattle.syntax.specs.Places.{IsExpr, IsKind, TypeAt, FunctionAt, expr_at, args_at}
 use Rattle.keys.specs.Keys.{all_keys}
 use Rattle.expressions.specs.Slots.{slot_at, beside_at, in_turn, after_visit, slotted, type_in, callee_in, callee_at, Callable, common_in, Beside, Typed, Typing}
 use Rattle.expressions.specs.Calls.{typed_at}
 use Rattle.expressions.specs.declared.operands.Sides.{Sides}
-use Rattle.expressions.specs.Answers.{refusal, type_result, common_result, found_number, found_record, TypeFound, FoundIs, common_at, IsCommon, done_with, callee_of, callee_record, value_result, IsTyped, IsCallee, TypeIs, CalleeIs, binary_type_at, WorksOut, Keepable, Keeps, TypeMeets, ArgsMeet, CallMeets, CommonMeets, SidesMeet}
+use Rattle.expressions.specs.Answers.{refusal, type_result, common_result, found_number, TypeFound, FoundIs, common_at, IsCommon, done_with, callee_of, callee_record, value_result, IsTyped, IsCallee, TypeIs, CalleeIs, binary_type_at, WorksOut, Keepable, Keeps, TypeMeets, ArgsMeet, CallMeets, CommonMeets, SidesMeet}
 use Rattle.syntax.proofs.Records.{expr-unary, expr-binary, expr-call}
 use Rattle.expressions.proofs.SlotLaws.{frame_refl, frame_trans}
 pub use Rattle.expressions.proofs.PartLaws.{expr-low, place_is, call-list, call-low}
@@ -61,41 +60,26 @@ unfolding ◌>>=◌ refusal
 bind-refused m x f e = rw e
 
 -- what an answer says
-pub type-ok : (m : Result ℕ) (a : ExprType) (y : ℕ) → m ≡ type_result a → a ≡ ExprType.Is y → m ≡ ok y
+pub type-ok : (m : Result ℕ) (a : Answer ℕ) (y : ℕ) → m ≡ type_result a → a ≡ Ok y → m ≡ ok y
 unfolding type_result
 type-ok m a y e q = e ∙ rw q
 
-pub type-refused : (m : Result ℕ) (a : ExprType) (x : ConvertError) → m ≡ type_result a → a ≡ ExprType.Refused x → m ≡ refusal x
+pub type-refused : (m : Result ℕ) (a : Answer ℕ) (x : ConvertError) → m ≡ type_result a → a ≡ Err x → m ≡ refusal x
 unfolding type_result
 type-refused m a x e q = e ∙ rw q
 
-pub is-typed : (tree : List ℕ) (a : ExprType) (y : ℕ) → IsTyped tree a → a ≡ ExprType.Is y → TypeAt tree y
-is-typed tree a y t q = go (subst (λ (z : ExprType). IsTyped tree z) q t)
+pub is-typed : (tree : List ℕ) (a : Answer ℕ) (y : ℕ) → IsTyped tree a → a ≡ Ok y → TypeAt tree y
+is-typed tree a y t q = go (subst (λ (z : Answer ℕ). IsTyped tree z) q t)
   where
-    go : IsTyped tree (ExprType.Is y) → TypeAt tree y
+    go : IsTyped tree (Ok y) → TypeAt tree y
     go (IsTyped.is h) = h
 
 -- a refusal is no success
 pub err-ok : {X : Type 0} (k : ConvertErrorKind) (p : ℕ) (x : X) → ◌≡◌ {A = Result X} (err k p) (ok x) → ⊥
 err-ok k p x e = let z : ◌≡◌ {A = ℕ} 0 1 = cc in omega arith
 
-refused-is : (r : ConvertError) (y : ℕ) → ExprType.Refused r ≡ ExprType.Is y → ⊥
+refused-is : (r : ConvertError) (y : ℕ) → ◌≡◌ {A = Answer ℕ} (Err r) (Ok y) → ⊥
 refused-is r y e = let z : ◌≡◌ {A = ℕ} 0 1 = cc in omega arith
-
--- what is kept of a refusal, and of a type
-pub keeps_refusal : (tree : List ℕ) (turn e : ℕ) (a : ExprType) (b : ℕ) (s : List ℕ) (r : ConvertError) → a ≡ ExprType.Refused r → Keeps tree turn e a b s (ExprType.Refused r) s
-keeps_refusal tree turn e a b s r q = record { same = sym q; type = λ y w. absurd (refused-is r y (sym q ∙ w)); refused = λ x w. refl }
-
-type-same : (y z : ℕ) → ExprType.Is y ≡ ExprType.Is z → y ≡ z
-type-same y z e = cc
-
-pub keeps_type : (tree : List ℕ) (turn e : ℕ) (a : ExprType) (b : ℕ) (s : List ℕ) (y : ℕ) → a ≡ ExprType.Is y → (s' : List ℕ) → s' ≡ after_visit tree turn e y b s
-    → Keeps tree turn e a b s (ExprType.Is y) s'
-keeps_type tree turn e a b s y q s' w = record {
-  same = sym q;
-  type = λ z v. w ∙ ap (λ (x : ℕ). after_visit tree turn e x b s) (type-same y z (sym q ∙ v));
-  refused = λ r v. absurd (refused-is r y (sym v ∙ q));
-}
 
 -- what succeeds after a callee has one
 callee-ok : {P : Type 0} (m : Result Callee) (f : Callee → Result ℕ) (y : ℕ) → (m >>= f) ≡ ok y → ((c : Callee) → m ≡ ok c → P) → P
@@ -104,34 +88,34 @@ callee-ok (ok c) f y q g = g c refl
 callee-ok (err k p) f y q g = absurd (err-ok k p y q)
 
 -- the record of a callee stands for it
-callee-stands : (tree text : List ℕ) (S : Def.Scope) (e : ℕ) (a : Resolved) → IsCallee tree a → callee_in tree text S e ≡ callee_of tree text a
+callee-stands : (tree text : List ℕ) (S : Def.Scope) (e : ℕ) (a : Answer Code.Callee) → IsCallee tree a → callee_in tree text S e ≡ callee_of tree text a
     → (c : Callee) → callee_of tree text a ≡ ok c → Callable tree text S e (callee_record a)
 unfolding callee_of callee_at callee_record pick refusal
-callee-stands tree text S e (Resolved.Function f) (IsCallee.a_function h) m c q = record { is = m ∙ rw h.kind; stands = inl h }
-callee-stands tree text S e (Resolved.Cast y) (IsCallee.a_cast h) m c q = record { is = m ∙ rw h.kind; stands = inr h }
-callee-stands tree text S e (Resolved.Refused x) IsCallee.no m c q = absurd (err-ok x.kind x.place c q)
+callee-stands tree text S e (Ok (Code.Callee.Function f)) (IsCallee.a_function h) m c q = record { is = m ∙ rw h.kind; stands = inl h }
+callee-stands tree text S e (Ok (Code.Callee.Cast y)) (IsCallee.a_cast h) m c q = record { is = m ∙ rw h.kind; stands = inr h }
+callee-stands tree text S e (Err x) IsCallee.no m c q = absurd (err-ok x.kind x.place c q)
 
 -- and what stands for it is told by its kind
 pub function-stands : (tree : List ℕ) (b : ℕ) → FunctionAt tree b ⊎ TypeAt tree b → kind_of tree b ≡ kind_function → (text : List ℕ)
-    → CalleeIs tree text (Resolved.Function b) (ok (callee_at tree text b))
+    → CalleeIs tree text (Ok (Code.Callee.Function b)) (ok (callee_at tree text b))
 unfolding callee_of callee_at pick
 function-stands tree b (inl h) q text = record { is = rw q; callee = IsCallee.a_function h }
 function-stands tree b (inr h) q text = absurd (omega (arith, q, h.kind))
 
 pub cast-stands : (tree : List ℕ) (b : ℕ) → FunctionAt tree b ⊎ TypeAt tree b → (kind_of tree b ≡ kind_function → ⊥) → (text : List ℕ)
-    → CalleeIs tree text (Resolved.Cast b) (ok (callee_at tree text b))
+    → CalleeIs tree text (Ok (Code.Callee.Cast b)) (ok (callee_at tree text b))
 unfolding callee_of callee_at pick
 cast-stands tree b (inl h) n text = absurd (n h.kind)
 cast-stands tree b (inr h) n text = record { is = rw (ne_eqb (kind_of tree b) kind_function n); callee = IsCallee.a_cast h }
 
-callee_small : (tree : List ℕ) (a : Resolved) → IsCallee tree a → records tree ≤ 16384 → callee_record a < 4294967296
+callee_small : (tree : List ℕ) (a : Answer Code.Callee) → IsCallee tree a → records tree ≤ 16384 → callee_record a < 4294967296
 unfolding callee_record
-callee_small tree (Resolved.Function f) (IsCallee.a_function h) few = omega (arith, h.below)
-callee_small tree (Resolved.Cast y) (IsCallee.a_cast h) few = omega (arith, h.below)
-callee_small tree (Resolved.Refused x) IsCallee.no few = omega arith
+callee_small tree (Ok (Code.Callee.Function f)) (IsCallee.a_function h) few = omega (arith, h.below)
+callee_small tree (Ok (Code.Callee.Cast y)) (IsCallee.a_cast h) few = omega (arith, h.below)
+callee_small tree (Err x) IsCallee.no few = omega arith
 
 -- a type that was found, and a Binary without one, which is refused
-pub found-is : {tree : List ℕ} {y : ℕ} → TypeFound tree (Found.At y) → TypeAt tree y
+pub found-is : {tree : List ℕ} {y : ℕ} → TypeFound tree (Some y) → TypeAt tree y
 found-is (TypeFound.a_type h) = h
 
 pick-refused : (b : Bool) (x y : Result ℕ) (i : ℕ) → (x ≡ ok i → ⊥) → (y ≡ ok i → ⊥) → pick b x y ≡ ok i → ⊥
@@ -222,11 +206,11 @@ module _ (tree text : List ℕ) (good : Good tree text) where
       parts_as l q s₁ t = subst (λ (z : List ℕ). Typed tree text S turn s z s₁) (sym q) t
 
       -- an operator with one operand
-      module _ (q : k ≡ 9) (a : ℕ) (ea : a ≡ word_of tree e A) (t : ExprType) (s₁ : List ℕ) (m : TypeMeets tree text s sc turn a t s₁) where
+      module _ (q : k ≡ 9) (a : ℕ) (ea : a ≡ word_of tree e A) (t : Answer ℕ) (s₁ : List ℕ) (m : TypeMeets tree text s sc turn a t s₁) where
         operand_type_lem : type_in tree text S (word_of tree e A) ≡ type_result t
         operand_type_lem = ap (type_in tree text S) (sym ea) ∙ m.meets
 
-        pub unary-stop : (r : ConvertError) → t ≡ ExprType.Refused r → TypeMeets tree text s sc turn e (ExprType.Refused r) s₁
+        pub unary-stop : (r : ConvertError) → t ≡ Err r → TypeMeets tree text s sc turn e (Err r) s₁
         unfolding type_result
         unary-stop r w = record {
           frame = m.frame;
@@ -239,7 +223,7 @@ module _ (tree text : List ℕ) (good : Good tree text) where
               (type-refused (type_in tree text S (word_of tree e A)) t r operand_type_lem w);
         }
 
-        pub unary-next : (y : ℕ) → t ≡ ExprType.Is y → (b : ExprType)
+        pub unary-next : (y : ℕ) → t ≡ Ok y → (b : Answer ℕ)
             → TypeIs tree b (unary_type (program tree text) (all_keys tree text) e (get_or unary_ops (detail_of tree e) Neg) y)
             → WorksOut tree text s sc turn e b 0 s₁
         unary-next y w b u = record {
@@ -256,7 +240,7 @@ module _ (tree text : List ℕ) (good : Good tree text) where
         }
 
       -- an operator with two
-      module _ (q : k ≡ 10) (a : ℕ) (ea : a ≡ word_of tree e A) (t : ExprType) (s₁ : List ℕ) (m : TypeMeets tree text s sc turn a t s₁) where
+      module _ (q : k ≡ 10) (a : ℕ) (ea : a ≡ word_of tree e A) (t : Answer ℕ) (s₁ : List ℕ) (m : TypeMeets tree text s sc turn a t s₁) where
         left_type : type_in tree text S (word_of tree e A) ≡ type_result t
         left_type = ap (type_in tree text S) (sym ea) ∙ m.meets
 
@@ -265,7 +249,7 @@ module _ (tree text : List ℕ) (good : Good tree text) where
             >>= λ y. binary_type (program tree text) (all_keys tree text) e (get_or binary_ops (detail_of tree e) Or)
             (expr_at tree text (word_of tree e A)) l (expr_at tree text (word_of tree e B)) y
 
-        pub left-stop : (r : ConvertError) → t ≡ ExprType.Refused r → TypeMeets tree text s sc turn e (ExprType.Refused r) s₁
+        pub left-stop : (r : ConvertError) → t ≡ Err r → TypeMeets tree text s sc turn e (Err r) s₁
         unfolding type_result
         left-stop r w = record {
           frame = m.frame;
@@ -277,15 +261,15 @@ module _ (tree text : List ℕ) (good : Good tree text) where
               (type-refused (type_in tree text S (word_of tree e A)) t r left_type w);
         }
 
-        module _ (typing : Typing tree text s sc turn) (l : ℕ) (w : t ≡ ExprType.Is l)
-            (b : ℕ) (eb : b ≡ word_of tree e B) (u : ExprType) (s₂ : List ℕ) (m₂ : TypeMeets tree text s₁ sc turn b u s₂) where
+        module _ (typing : Typing tree text s sc turn) (l : ℕ) (w : t ≡ Ok l)
+            (b : ℕ) (eb : b ≡ word_of tree e B) (u : Answer ℕ) (s₂ : List ℕ) (m₂ : TypeMeets tree text s₁ sc turn b u s₂) where
           right_type : type_in tree text S (word_of tree e B) ≡ type_result u
           right_type = ap (type_in tree text S) (sym eb) ∙ later_type tree text s sc turn typing s₁ m.frame b u s₂ m₂
 
           both_parts : parts_exprs (expr_at tree text e) ≡ exprs (expr_at tree text a) ++ exprs (expr_at tree text b)
           both_parts = binary_parts tree text good e x (kind_at 10 q) ∙ rw (ea, eb)
 
-          both-adds : (y : ℕ) → u ≡ ExprType.Is y → Typed tree text S turn s (parts_exprs (expr_at tree text e)) s₂
+          both-adds : (y : ℕ) → u ≡ Ok y → Typed tree text S turn s (parts_exprs (expr_at tree text e)) s₂
           both-adds y v = parts_as (exprs (expr_at tree text a) ++ exprs (expr_at tree text b)) both_parts s₂
               (typed-both tree text S turn s s₁ s₂ (exprs (expr_at tree text a)) (exprs (expr_at tree text b)) (m.adds l w)
               (later_adds tree text s sc turn typing s₁ m.frame b u s₂ m₂ y v))
@@ -295,7 +279,7 @@ module _ (tree text : List ℕ) (good : Good tree text) where
               type-binary S e (expr-low tree text good e x) (kind_at 10 q)
               ∙ bind_ok (type_in tree text S (word_of tree e A)) l (rule S) (type-ok (type_in tree text S (word_of tree e A)) t l left_type w)
 
-          pub right-stop : (r : ConvertError) → u ≡ ExprType.Refused r → TypeMeets tree text s sc turn e (ExprType.Refused r) s₂
+          pub right-stop : (r : ConvertError) → u ≡ Err r → TypeMeets tree text s sc turn e (Err r) s₂
           unfolding type_result
           right-stop r v = record {
             frame = frame_trans m.frame m₂.frame;
@@ -310,7 +294,7 @@ module _ (tree text : List ℕ) (good : Good tree text) where
           }
 
           -- what both sides take, and that a Binary with a type has it
-          shared-is : (y : ℕ) → u ≡ ExprType.Is y → (sides : Sides) → sides ≡ record { left = a; left_type = l; right = b; right_type = y }
+          shared-is : (y : ℕ) → u ≡ Ok y → (sides : Sides) → sides ≡ record { left = a; left_type = l; right = b; right_type = y }
               → common_in tree text S e ≡ ok (common_at tree text sides)
           unfolding common_type type_in
           shared-is y v sides es =
@@ -320,21 +304,21 @@ module _ (tree text : List ℕ) (good : Good tree text) where
               ∙ bind_ok (type_in tree text S b) y (λ r. ok (common_of (program tree text) (all_keys tree text) (expr_at tree text a) l (expr_at tree text b) r))
               (type-ok (type_in tree text S b) u y (later_type tree text s sc turn typing s₁ m.frame b u s₂ m₂) v))
 
-          beside-common : (y : ℕ) → u ≡ ExprType.Is y → (sides : Sides) → sides ≡ record { left = a; left_type = l; right = b; right_type = y } → (d : ExprType)
-              → TypeIs tree d (binary_type_at tree text e sides) → (f : Found) → FoundIs tree f (common_at tree text sides)
-              → (i : ℕ) → d ≡ ExprType.Is i → (found_record f < 4294967296) × Beside tree text S e (found_record f)
-          unfolding found_record found_number
-          beside-common y v sides es d z (Found.At o) ef i j = (
+          beside-common : (y : ℕ) → u ≡ Ok y → (sides : Sides) → sides ≡ record { left = a; left_type = l; right = b; right_type = y } → (d : Answer ℕ)
+              → TypeIs tree d (binary_type_at tree text e sides) → (f : StdOption ℕ) → FoundIs tree f (common_at tree text sides)
+              → (i : ℕ) → d ≡ Ok i → (unwrap_or f 0 < 4294967296) × Beside tree text S e (unwrap_or f 0)
+          unfolding found_number
+          beside-common y v sides es d z (Some o) ef i j = (
             omega (arith, (found-is ef.type).below, good.few),
             record {
               callee = λ c. absurd (omega (arith, c, kind_at 10 q));
               common = λ c. record { is = shared-is y v sides es ∙ ap (λ (x : Option ℕ). ok x) (sym ef.is); type = found-is ef.type };
             },
           )
-          beside-common y v sides es d z Found.Nothing ef i j = absurd (no-common tree text e sides i (sym ef.is) (type-ok (binary_type_at tree text e sides) d i z.is j))
+          beside-common y v sides es d z None ef i j = absurd (no-common tree text e sides i (sym ef.is) (type-ok (binary_type_at tree text e sides) d i z.is j))
 
-          pub right_next_lem : (y : ℕ) → u ≡ ExprType.Is y → (sides : Sides) → sides ≡ record { left = a; left_type = l; right = b; right_type = y } → (d : ExprType)
-              → TypeIs tree d (binary_type_at tree text e sides) → (f : Found) → FoundIs tree f (common_at tree text sides) → (w : ℕ) → w ≡ found_record f
+          pub right_next_lem : (y : ℕ) → u ≡ Ok y → (sides : Sides) → sides ≡ record { left = a; left_type = l; right = b; right_type = y } → (d : Answer ℕ)
+              → TypeIs tree d (binary_type_at tree text e sides) → (f : StdOption ℕ) → FoundIs tree f (common_at tree text sides) → (w : ℕ) → w ≡ unwrap_or f 0
               → WorksOut tree text s sc turn e d w s₂
           right_next_lem y v sides es d z f ef w ew = record {
             frame = frame_trans m.frame m₂.frame;
@@ -351,7 +335,7 @@ module _ (tree text : List ℕ) (good : Good tree text) where
           }
 
       -- a call
-      pub call_value_lem : k ≡ 11 → (c : Resolved) (s₁ : List ℕ) → CallMeets tree text s sc turn e c s₁ → (b : ExprType)
+      pub call_value_lem : k ≡ 11 → (c : Answer Code.Callee) (s₁ : List ℕ) → CallMeets tree text s sc turn e c s₁ → (b : Answer ℕ)
           → TypeIs tree b (value_result tree text e c) → (w : ℕ) → w ≡ callee_record c → WorksOut tree text s sc turn e b w s₁
       unfolding value_result
       call_value_lem q c s₁ m b u w ew = record {
@@ -372,7 +356,7 @@ module _ (tree text : List ℕ) (good : Good tree text) where
       }
 
       -- an expression without parts
-      pub leaf_meets : Typing tree text s sc turn → (k ≡ 9 → ⊥) → (k ≡ 10 → ⊥) → (k ≡ 11 → ⊥) → (a : ExprType)
+      pub leaf_meets : Typing tree text s sc turn → (k ≡ 9 → ⊥) → (k ≡ 10 → ⊥) → (k ≡ 11 → ⊥) → (a : Answer ℕ)
           → TypeIs tree a (type_in tree text S e) → WorksOut tree text s sc turn e a 0 s
       leaf_meets typing n₉ n₁₀ n₁₁ a h = record {
         frame = frame_refl tree s;
@@ -384,15 +368,11 @@ module _ (tree text : List ℕ) (good : Good tree text) where
 
   -- ---- a type that the turn remembers, or that is worked out in it
 
-  pub look_ready : (e : ℕ) → IsExpr tree e → (s : List ℕ) (sc : Scope) (turn : ℕ) → Typing tree text s sc turn
-      → (e < records tree) × (72 * records tree ≤ length s)
-  look_ready e x s sc turn typing = (expr-low tree text good e x, typing.ready.keyed.listed.room)
-
   module _ (e : ℕ) (x : IsExpr tree e) (s : List ℕ) (sc : Scope) (turn : ℕ) (typing : Typing tree text s sc turn) where
     abbrev U : Def.Scope
     U = scope_at tree text s sc
 
-    pub type-known : (b : Bool) → b ≡ in_turn tree turn s e → b ≡ true → (y : ℕ) → y ≡ slot_at tree s e → TypeMeets tree text s sc turn e (ExprType.Is y) s
+    pub type-known : (b : Bool) → b ≡ in_turn tree turn s e → b ≡ true → (y : ℕ) → y ≡ slot_at tree s e → TypeMeets tree text s sc turn e (Ok y) s
     unfolding type_result
     type-known b eb q y ey =
         let right = hit_right tree text U turn s typing.remembers e (expr-low tree text good e x) (sym eb ∙ q) in record {
@@ -403,7 +383,7 @@ module _ (tree text : List ℕ) (good : Good tree text) where
         }
 
     -- it is worked out where the turn has none, and kept
-    module _ (new : in_turn tree turn s e ≡ false) (a : ExprType) (b : ℕ) (s₁ : List ℕ) (m : WorksOut tree text s sc turn e a b s₁) where
+    module _ (new : in_turn tree turn s e ≡ false) (a : Answer ℕ) (b : ℕ) (s₁ : List ℕ) (m : WorksOut tree text s sc turn e a b s₁) where
       room : 72 * records tree ≤ length s₁
       room = omega (arith, m.frame.same_length, typing.ready.keyed.listed.room)
 
@@ -415,7 +395,7 @@ module _ (tree text : List ℕ) (good : Good tree text) where
         );
       }
 
-      kept-type : turn < 4294967296 → (y : ℕ) → a ≡ ExprType.Is y → TypeMeets tree text s sc turn e (ExprType.Is y) (after_visit tree turn e y b s₁)
+      kept-type : turn < 4294967296 → (y : ℕ) → a ≡ Ok y → TypeMeets tree text s sc turn e (Ok y) (after_visit tree turn e y b s₁)
       unfolding type_result
       kept-type fit y q = record {
         frame = frame_trans m.frame (visited-frame tree s₁ turn e y b (expr-low tree text good e x) room);
@@ -425,7 +405,7 @@ module _ (tree text : List ℕ) (good : Good tree text) where
             (is-typed tree a y m.typed q) (m.beside y q);
       }
 
-      kept-refusal : (r : ConvertError) → a ≡ ExprType.Refused r → TypeMeets tree text s sc turn e (ExprType.Refused r) s₁
+      kept-refusal : (r : ConvertError) → a ≡ Err r → TypeMeets tree text s sc turn e (Err r) s₁
       unfolding type_result
       kept-refusal r q = record {
         frame = m.frame;
@@ -434,12 +414,12 @@ module _ (tree text : List ℕ) (good : Good tree text) where
         adds = λ y v. absurd (refused-is r y v);
       }
 
-      pub keep_meets : turn < 4294967296 → (d : ExprType) (s₂ : List ℕ) → Keeps tree turn e a b s₁ d s₂ → TypeMeets tree text s sc turn e d s₂
+      pub keep_meets : turn < 4294967296 → (d : Answer ℕ) (s₂ : List ℕ) → Keeps tree turn e a b s₁ d s₂ → TypeMeets tree text s sc turn e d s₂
       keep_meets fit d s₂ k = go a refl
         where
-          go : (z : ExprType) → a ≡ z → TypeMeets tree text s sc turn e d s₂
-          go (ExprType.Is y) q = rw (k.same, q, k.type y q) (kept-type fit y q)
-          go (ExprType.Refused r) q = rw (k.same, q, k.refused r q) (kept-refusal r q)
+          go : (z : Answer ℕ) → a ≡ z → TypeMeets tree text s sc turn e d s₂
+          go (Ok y) q = rw (k.same, q, k.type y q) (kept-type fit y q)
+          go (Err r) q = rw (k.same, q, k.refused r q) (kept-refusal r q)
 
   -- ---- what a call runs
 
@@ -458,7 +438,7 @@ module _ (tree text : List ℕ) (good : Good tree text) where
     pub callee-ready : (FunctionAt tree b ⊎ TypeAt tree b) × (length tree ≡ records tree * 32)
     callee-ready = (callable.stands, good.whole)
 
-    pub call_known : (a : Resolved) → ((text' : List ℕ) → CalleeIs tree text' a (ok (callee_at tree text' b))) → CallMeets tree text s sc turn r a s
+    pub call_known : (a : Code.Callee) → ((text' : List ℕ) → CalleeIs tree text' (Ok a) (ok (callee_at tree text' b))) → CallMeets tree text s sc turn r (Ok a) s
     call_known a h = record {
       frame = frame_refl tree s;
       callee = (h text).callee;
@@ -467,13 +447,13 @@ module _ (tree text : List ℕ) (good : Good tree text) where
     }
 
   -- the sides by their words
-  pub sides_meet : (e l r : ℕ) → l ≡ word_of tree e A → r ≡ word_of tree e B → (s : List ℕ) (sc : Scope) (turn : ℕ) (a : Common) (s' : List ℕ)
+  pub sides_meet : (e l r : ℕ) → l ≡ word_of tree e A → r ≡ word_of tree e B → (s : List ℕ) (sc : Scope) (turn : ℕ) (a : Answer (StdOption ℕ)) (s' : List ℕ)
       → CommonMeets tree text s sc turn l r a s' → SidesMeet tree text s sc turn e a s'
   sides_meet e l r el er s sc turn a s' m = rw (← el, ← er) m
 
   -- and so is the type that both sides of a Binary take
   pub common-known : (e : ℕ) → IsKind tree 10 e → (s : List ℕ) (sc : Scope) (turn : ℕ) → Typing tree text s sc turn → (t : Bool) → t ≡ in_turn tree turn s e → t ≡ true
-      → (b : ℕ) → b ≡ beside_at tree s e → SidesMeet tree text s sc turn e (Common.Is b) s
+      → (b : ℕ) → b ≡ beside_at tree s e → SidesMeet tree text s sc turn e (Ok (Some b)) s
   unfolding common_result
   common-known e k s sc turn typing t et hit b eb =
       let S = scope_at tree text s sc in
@@ -485,11 +465,11 @@ module _ (tree text : List ℕ) (good : Good tree text) where
         adds = λ o v. rw (← binary_parts tree text good e x k.kind) (hit_parts tree text S turn s typing.remembers e k.below (sym et ∙ hit) good x);
       }
 
-  module _ (s : List ℕ) (sc : Scope) (turn r : ℕ) (a : Outcome) (s₁ : List ℕ) (m : ArgsMeet tree text s sc turn (word_of tree r C) a s₁) where
+  module _ (s : List ℕ) (sc : Scope) (turn r : ℕ) (a : Answer (Unit {0})) (s₁ : List ℕ) (m : ArgsMeet tree text s sc turn (word_of tree r C) a s₁) where
     abbrev T : Def.Scope
     T = scope_at tree text s sc
 
-    pub call-stop : (x : ConvertError) → a ≡ Outcome.Refused x → CallMeets tree text s sc turn r (Resolved.Refused x) s₁
+    pub call-stop : (x : ConvertError) → a ≡ Err x → CallMeets tree text s sc turn r (Err x) s₁
     unfolding callee_of done_with resolve_call refusal
     call-stop x q = record {
       frame = m.frame;
@@ -501,7 +481,7 @@ module _ (tree text : List ℕ) (good : Good tree text) where
           (m.meets ∙ ap (done_with (slotted tree s₁ (args_at tree text (word_of tree r C)))) q);
     }
 
-    pub call_next : a ≡ Outcome.Done → (c : Resolved)
+    pub call_next : a ≡ Ok tt → (c : Answer Code.Callee)
         → CalleeIs tree text c (resolve_typed (program tree text) (all_keys tree text) (text_of tree text r A) r (typed_at tree text s₁ (word_of tree r C)))
         → CallMeets tree text s sc turn r c s₁
     unfolding done_with resolve_call typed_at

@@ -10,7 +10,6 @@ use Rattle.syntax.specs.Decode.{program, text_of}
 use Rattle.conversion.specs.ConvertError.{Result}
 use Rattle.conversion.specs.Ir.{same_text}
 use Rattle.conversion.specs.Expressions.{TypedArg, Callee, suffixes, joined, takes_arg, takes_args, takes_both, variadic_mark, filter_option, get_function, mangled_function, variadic_function, find_exact_function, find_functions_by_literals, cast_type, resolve_function, resolve_typed}
-use Rattle.records.specs.declared.words.Found.{Found}
 use Rattle.expressions.specs.declared.arguments.Call.{Call}
 use Rattle.syntax.specs.Places.{ArgsAt, args_at, params_at}
 use Rattle.texts.specs.Texts.{has_own, own_text, original}
@@ -37,11 +36,6 @@ pub record CallAt (tree text : List ℕ) (r : ℕ) (c : Call) : Type 0 where
   pub len : c.len ≡ word_of tree r B
   pub first : c.first ≡ word_of tree r C
   pub count : (s : List ℕ) → c.count ≡ length (slotted tree s (args_at tree text (word_of tree r C)))
-
--- what was found last
-abbrev pub later_of : Found → Found → Found
-later_of first (Found.At f) = Found.At f
-later_of first Found.Nothing = first
 
 module _ (tree text s : List ℕ) where
   -- the arguments from cell w on, each with the type that its slot has

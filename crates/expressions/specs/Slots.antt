@@ -1,6 +1,6 @@
 -- The types of expressions in scratch, each at its slot, with the turn in which it was worked out; the scope; and what typing leaves of the scratch.
 -- Assumes nothing: these are definitions.
-use Rattle.std.specs.Prelude.{◌≡◌, ◌⊎◌, ℕ, ◌+◌, ◌*◌, ◌/◌, ◌≤◌, ◌<◌, Bool, true, ◌||◌, length}
+use Rattle.std.specs.Prelude.{◌≡◌, ◌⊎◌, Option as StdOption, ℕ, ◌+◌, ◌*◌, ◌/◌, ◌≤◌, ◌<◌, Bool, true, ◌||◌, length}
 use mathlib.Core.List.{List, [], ◌∷◌}
 use Rattle.std.proofs.Math.Option.{Option, none, some}
 use Rattle.std.proofs.Math.Dec.{eqb}
@@ -22,7 +22,6 @@ use Rattle.conversion.specs.Expressions.{TypedArg, Callee, CallFunction, CallCas
 use Rattle.conversion.specs.Written.{word}
 use Rattle.ir.specs.declared.structs.VarId.{VarId}
 use Rattle.scope.specs.declared.Scope.{Scope}
-use Rattle.scope.specs.declared.Declared.{Declared}
 use Rattle.scope.specs.Open.{NamesRoom, open_name_at, name_slot_at, scope_at, DeclareMeets}
 use Rattle.syntax.specs.Places.{IsExpr, TypeAt, FunctionAt, function_of, expr_at, args_at}
 use Rattle.texts.specs.Texts.{has_own, original_at, Numbered}
@@ -194,7 +193,7 @@ pub record Asked (tree text s : List ℕ) (sc : Scope) (r : ℕ) : Type 0 where
   pub has_its_text : has_own tree r ≡ true
 
 -- its name is declared by the words of the lowest record with the text
-abbrev pub NameDeclared : List ℕ → List ℕ → ℕ → VarId → Bool → Scope → List ℕ → List ℕ → Declared → Type 0
+abbrev pub NameDeclared : List ℕ → List ℕ → ℕ → VarId → Bool → Scope → List ℕ → List ℕ → StdOption Scope → Type 0
 NameDeclared tree text r v constant sc s s' a =
     DeclareMeets text (original_of tree s r) (original_word tree s r A) (original_word tree s r B) v constant sc s s' a
 

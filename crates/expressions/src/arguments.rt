@@ -1,5 +1,5 @@
 // The arguments of a call: a list of cells. The type of an argument that is an expression stands in scratch, at the expression's slot.
-ghost use Rattle.std.specs.Prelude.{◌≡◌, List, ℕ, ◌+◌, ◌*◌, ◌≤◌, ◌<◌, length};
+ghost use Rattle.std.specs.Prelude.{◌≡◌, ◌⊎◌, List, ℕ, ◌+◌, ◌*◌, ◌≤◌, ◌<◌, length};
 ghost use Rattle.records.specs.Layout.{scratch_each};
 ghost use Rattle.records.specs.Words as Words;
 ghost use Rattle.records.specs.Words.{records, word_of, none};
@@ -12,10 +12,11 @@ ghost use Rattle.expressions.specs.Calls.{typed_at, Argued};
 ghost use Rattle.expressions.specs.Slots.{slot_at, FirstType};
 ghost use Rattle.expressions.specs.Answers.{ArgumentIs, found_number, TypeFound};
 
+use crate::turns::entry;
 use keys::parts::{Part, text_part};
 use records::layout::{TYPE_SLOT_BYTES, TYPE_SLOTS};
 use records::numbers::KIND_VALUE;
-use records::words::{Found, NONE, RECORD_BYTES, WORD_A, WORD_B, WORD_D, kind, load, reference};
+use records::words::{NONE, WORD_A, WORD_B, WORD_D, kind, reference};
 
 // No further cell.
 pub const END: usize = NONE as usize;
@@ -65,8 +66,7 @@ pub(crate) fn slot(tree: &[u8], scratch: &[u8], e: usize) -> usize
     requires { (e < records tree.now) × (scratch_each * records tree.now ≤ length scratch.now) }
     ensures { result ≡ slot_at tree.now scratch.now e }
 {
-    let n = tree.len() / RECORD_BYTES;
-    load(scratch, TYPE_SLOTS * n + TYPE_SLOT_BYTES * e) as usize
+    entry(tree, scratch, TYPE_SLOTS, TYPE_SLOT_BYTES, e) as usize
 }
 
 // The type of the argument in a cell.
@@ -90,10 +90,12 @@ pub(crate) fn type_key(tree: &[u8], text: &[u8], y: usize) -> Part
     text_part(tree, y, WORD_D)
 }
 
-pub(crate) fn count_arguments(tree: &[u8], text: &[u8], first: usize) -> usize
+// How many cells a list has, of arguments or of parameters.
+fn count_cells(tree: &[u8], text: &[u8], first: usize) -> usize
     requires good { Good tree.now text.now }
-    requires args_at { ArgsAt tree.now first }
-    ensures { (s : List ℕ) → result ≡ length (typed_at tree.now text.now s first) }
+    requires list { ArgsAt tree.now first ⊎ ParamsAt tree.now first }
+    ensures arguments { ArgsAt tree.now first → (s : List ℕ) → result ≡ length (typed_at tree.now text.now s first) }
+    ensures parameters { ParamsAt tree.now first → result ≡ length (params_at tree.now text.now first) }
 {
     let mut n = 0;
     let mut cell = first;
@@ -102,6 +104,14 @@ pub(crate) fn count_arguments(tree: &[u8], text: &[u8], first: usize) -> usize
         cell = next_cell(tree, cell);
     }
     n
+}
+
+pub(crate) fn count_arguments(tree: &[u8], text: &[u8], first: usize) -> usize
+    requires good { Good tree.now text.now }
+    requires args_at { ArgsAt tree.now first }
+    ensures { (s : List ℕ) → result ≡ length (typed_at tree.now text.now s first) }
+{
+    count_cells(tree, text, first)
 }
 
 pub(crate) fn count_parameters(tree: &[u8], text: &[u8], first: usize) -> usize
@@ -109,17 +119,11 @@ pub(crate) fn count_parameters(tree: &[u8], text: &[u8], first: usize) -> usize
     requires params_at { ParamsAt tree.now first }
     ensures { result ≡ length (params_at tree.now text.now first) }
 {
-    let mut n = 0;
-    let mut cell = first;
-    while cell != END {
-        n += 1;
-        cell = next_cell(tree, cell);
-    }
-    n
+    count_cells(tree, text, first)
 }
 
 // The first type among the arguments.
-pub(crate) fn target_type(tree: &[u8], text: &[u8], first: usize) -> Found
+pub(crate) fn target_type(tree: &[u8], text: &[u8], first: usize) -> Option<usize>
     requires good { Good tree.now text.now }
     requires args_at { ArgsAt tree.now first }
     ensures { ((s : List ℕ) → found_number result ≡ target_type (typed_at tree.now text.now s first)) × TypeFound tree.now result }
@@ -127,24 +131,24 @@ pub(crate) fn target_type(tree: &[u8], text: &[u8], first: usize) -> Found
     let mut cell = first;
     while cell != END {
         if let Argument::ToType(y) = argument_at(tree, text, cell) {
-            return Found::At(y);
+            return Some(y);
         }
         cell = next_cell(tree, cell);
     }
-    Found::Nothing
+    None
 }
 
 // The type of the first expression among the arguments.
-pub(crate) fn source_type(tree: &[u8], text: &[u8], scratch: &[u8], first: usize) -> Found
+pub(crate) fn source_type(tree: &[u8], text: &[u8], scratch: &[u8], first: usize) -> Option<usize>
     requires { Argued tree.now text.now scratch.now first }
     ensures { (found_number result ≡ source_type (typed_at tree.now text.now scratch.now first)) × TypeFound tree.now result }
 {
     let mut cell = first;
     while cell != END {
         if let Argument::Expr(e) = argument_at(tree, text, cell) {
-            return Found::At(slot(tree, scratch, e));
+            return Some(slot(tree, scratch, e));
         }
         cell = next_cell(tree, cell);
     }
-    Found::Nothing
+    None
 }

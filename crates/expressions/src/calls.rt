@@ -1,5 +1,5 @@
 // expressions.rs: what a call runs, once its arguments' types stand in scratch.
-ghost use Rattle.std.specs.Prelude.{◌≡◌, ◌⊎◌, ℕ, ◌*◌, ◌≤◌, List, length};
+ghost use Rattle.std.specs.Prelude.{◌≡◌, ◌⊎◌, ℕ, ◌*◌, ◌≤◌, List, length, Ok, Err};
 ghost use Rattle.records.specs.Layout.{scratch_each};
 ghost use Rattle.records.specs.Words as Words;
 ghost use Rattle.records.specs.Words.{record_bytes, records, word_of};
@@ -13,7 +13,7 @@ ghost use Rattle.expressions.specs.Slots.{ArgsTyped, callee_at};
 ghost use Rattle.expressions.specs.Calls.{Called, CallAt, literal_fits, cast_type_of, function_for, resolved_at};
 ghost use Rattle.expressions.specs.Answers.{callee_record, CandidatesAre, CastIs, CalleeIs};
 
-use crate::answers::{Candidates, Cast, Resolved};
+use crate::answers::{Callee, Candidates};
 use crate::arguments::{Call, count_arguments, source_type, target_type};
 use crate::exact::find_exact_function;
 use crate::takes::takes_call;
@@ -22,7 +22,7 @@ use keys::keys::{name_before, name_head};
 use keys::parts::{Part, is_cast_verb, text_part};
 use records::convert_error::{ConvertError, ConvertErrorKind};
 use records::numbers::KIND_FUNCTION;
-use records::words::{Found, RECORD_BYTES, WORD_A, WORD_C, kind, reference};
+use records::words::{RECORD_BYTES, WORD_A, WORD_C, kind, reference};
 use texts::original;
 use types::casts::can_cast;
 
@@ -49,7 +49,13 @@ fn find_functions_by_literals(tree: &[u8], text: &[u8], scratch: &[u8], call: Ca
 }
 
 // The type that the call of record r casts to, where its verb is the cast's and it has a type argument.
-fn cast_type(tree: &[u8], text: &[u8], scratch: &[u8], call: Call, r: u32) -> Cast
+fn cast_type(
+    tree: &[u8],
+    text: &[u8],
+    scratch: &[u8],
+    call: Call,
+    r: u32,
+) -> Result<Option<usize>, ConvertError>
     requires { Called tree.now text.now scratch.now call }
     ensures { CastIs tree.now result (cast_type_of tree.now text.now scratch.now call r) }
 {
@@ -61,40 +67,46 @@ fn cast_type(tree: &[u8], text: &[u8], scratch: &[u8], call: Call, r: u32) -> Ca
             len: call.len,
         },
     ) {
-        return Cast::Not;
+        return Ok(None);
     }
-    let Found::At(to) = target_type(tree, text, first) else {
-        return Cast::Not;
+    let Some(to) = target_type(tree, text, first) else {
+        return Ok(None);
     };
-    let Found::At(from) = source_type(tree, text, scratch, first) else {
-        return Cast::To(to);
+    let Some(from) = source_type(tree, text, scratch, first) else {
+        return Ok(Some(to));
     };
     if can_cast(tree, from, to) {
-        return Cast::To(to);
+        return Ok(Some(to));
     }
-    Cast::Refused(ConvertError {
+    Err(ConvertError {
         kind: ConvertErrorKind::InvalidCast,
         place: r,
     })
 }
 
-fn refuse_call(kind: ConvertErrorKind, place: u32) -> Resolved
-    ensures { result ≡ Resolved.Refused (record { kind = kind; place = place }) }
+fn refuse_call(kind: ConvertErrorKind, place: u32) -> Result<Callee, ConvertError>
+    ensures { result ≡ Err (record { kind = kind; place = place }) }
 {
-    Resolved::Refused(ConvertError { kind, place })
+    Err(ConvertError { kind, place })
 }
 
 // Where the call is no cast.
-fn resolve_function(tree: &[u8], text: &[u8], scratch: &[u8], call: Call, r: u32) -> Resolved
+fn resolve_function(
+    tree: &[u8],
+    text: &[u8],
+    scratch: &[u8],
+    call: Call,
+    r: u32,
+) -> Result<Callee, ConvertError>
     requires keyed { Keyed tree.now text.now scratch.now }
     requires called { Called tree.now text.now scratch.now call }
     ensures { CalleeIs tree.now text.now result (function_for tree.now text.now scratch.now call r) }
 {
-    if let Found::At(f) = find_exact_function(tree, text, scratch, call) {
-        return Resolved::Function(f);
+    if let Some(f) = find_exact_function(tree, text, scratch, call) {
+        return Ok(Callee::Function(f));
     }
     match find_functions_by_literals(tree, text, scratch, call) {
-        Candidates::One(f) => Resolved::Function(f),
+        Candidates::One(f) => Ok(Callee::Function(f)),
         Candidates::Nobody => refuse_call(ConvertErrorKind::UnknownFunction, r),
         Candidates::Several => refuse_call(ConvertErrorKind::AmbiguousCall, r),
     }
@@ -120,7 +132,12 @@ fn call_of(tree: &[u8], text: &[u8], scratch: &[u8], r: usize) -> Call
 }
 
 // resolve_call from the typed arguments on.
-pub(crate) fn resolve_typed(tree: &[u8], text: &[u8], scratch: &[u8], r: usize) -> Resolved
+pub(crate) fn resolve_typed(
+    tree: &[u8],
+    text: &[u8],
+    scratch: &[u8],
+    r: usize,
+) -> Result<Callee, ConvertError>
     requires keyed { Keyed tree.now text.now scratch.now }
     requires kind { IsKind tree.now kind_call r }
     requires args_typed { ArgsTyped tree.now scratch.now (args_at tree.now text.now (word_of tree.now r Words.C)) }
@@ -128,32 +145,33 @@ pub(crate) fn resolve_typed(tree: &[u8], text: &[u8], scratch: &[u8], r: usize) 
 {
     let call = call_of(tree, text, scratch, r);
     let place = r as u32;
-    match cast_type(tree, text, scratch, call, place) {
-        Cast::Refused(e) => Resolved::Refused(e),
-        Cast::To(y) => Resolved::Cast(y),
-        Cast::Not => resolve_function(tree, text, scratch, call, place),
+    if let Some(y) = cast_type(tree, text, scratch, call, place)? {
+        return Ok(Callee::Cast(y));
     }
+    resolve_function(tree, text, scratch, call, place)
 }
 
 // The record of what a call runs: the function's, or that of the type it casts to.
-pub(crate) fn callee_record(callee: Resolved) -> usize
+pub(crate) fn callee_record(callee: Result<Callee, ConvertError>) -> usize
     ensures { result ≡ callee_record callee }
 {
+    let Ok(callee) = callee else {
+        return NOTHING;
+    };
     match callee {
-        Resolved::Function(f) => f,
-        Resolved::Cast(y) => y,
-        Resolved::Refused(_) => NOTHING,
+        Callee::Function(f) => f,
+        Callee::Cast(y) => y,
     }
 }
 
 // What a call runs, by that record.
-pub(crate) fn callee_at(tree: &[u8], b: usize) -> Resolved
+pub(crate) fn callee_at(tree: &[u8], b: usize) -> Callee
     requires function_at { FunctionAt tree.now b ⊎ TypeAt tree.now b }
     requires tree_len { length tree.now ≡ records tree.now * record_bytes }
-    ensures { (text : List ℕ) → CalleeIs tree.now text result (ok (callee_at tree.now text b)) }
+    ensures { (text : List ℕ) → CalleeIs tree.now text (Ok result) (ok (callee_at tree.now text b)) }
 {
     if kind(tree, b) == KIND_FUNCTION {
-        return Resolved::Function(b);
+        return Callee::Function(b);
     }
-    Resolved::Cast(b)
+    Callee::Cast(b)
 }

@@ -10,14 +10,14 @@ ghost use Rattle.conversion.specs.Expressions.{is_mangled, filter_option, variad
 ghost use Rattle.syntax.specs.Places.{FunctionAt, function_of};
 ghost use Rattle.texts.specs.Texts.{Numbered};
 ghost use Rattle.keys.specs.Keys.{Keyed, FunctionIs};
-ghost use Rattle.expressions.specs.Calls.{suffixes_at, verb_of, name_of, bytes_in, Argued, Called, suffixes_stand, by_name, by_full_name, by_marked, later_of, by_prefix, exactly};
+ghost use Rattle.expressions.specs.Calls.{suffixes_at, verb_of, name_of, bytes_in, Argued, Called, suffixes_stand, by_name, by_full_name, by_marked, by_prefix, exactly};
 
 use crate::arguments::{Call, END, argument_type, next_cell, type_key};
 use crate::takes::takes_call;
 use keys::keys::{find_key, is_mangled, key_before, key_head, key_of};
 use keys::parts::{Part, is_variadic_mark};
 use records::texts::{roll, roll_byte, same_part};
-use records::words::{Found, RECORD_BYTES};
+use records::words::RECORD_BYTES;
 use texts::kept_digest;
 
 const DOLLAR: u8 = 36;
@@ -61,8 +61,7 @@ fn are_suffixes(tree: &[u8], text: &[u8], scratch: &[u8], first: usize, k: usize
 {
     let mut here = at;
     let mut cell = first;
-    let mut i = 0;
-    while i < k {
+    for _ in 0..k {
         let piece = type_key(tree, text, argument_type(tree, text, scratch, cell));
         let start = piece.offset;
         let size = piece.len;
@@ -74,7 +73,6 @@ fn are_suffixes(tree: &[u8], text: &[u8], scratch: &[u8], first: usize, k: usize
         }
         here = here + 1 + size;
         cell = next_cell(tree, cell);
-        i += 1;
     }
     true
 }
@@ -96,29 +94,28 @@ fn is_name(tree: &[u8], text: &[u8], scratch: &[u8], call: Call, k: usize, key: 
 }
 
 // The verb as a key.
-fn by_name(tree: &[u8], text: &[u8], scratch: &[u8], call: Call) -> Found
+fn by_name(tree: &[u8], text: &[u8], scratch: &[u8], call: Call) -> Option<usize>
     requires keyed { Keyed tree.now text.now scratch.now }
     requires called { Called tree.now text.now scratch.now call }
     ensures { FunctionIs tree.now text.now result (by_name tree.now text.now scratch.now call) }
 {
-    if let Found::At(f) = find_key(tree, text, scratch, call.verb) {
-        if takes_call(tree, text, scratch, f, call) {
-            return Found::At(f);
-        }
+    let f = find_key(tree, text, scratch, call.verb)?;
+    if takes_call(tree, text, scratch, f, call) {
+        return Some(f);
     }
-    Found::Nothing
+    None
 }
 
 // A function, where it is mangled: without arguments, a verb must not find the external function of its name.
-fn mangled_only(tree: &[u8], text: &[u8], f: usize) -> Found
+fn mangled_only(tree: &[u8], text: &[u8], f: usize) -> Option<usize>
     requires good { Good tree.now text.now }
     requires function_at { FunctionAt tree.now f }
     ensures { FunctionIs tree.now text.now result (filter_option is_mangled (some (function_of tree.now text.now f))) }
 {
     if is_mangled(tree, text, f) {
-        return Found::At(f);
+        return Some(f);
     }
-    Found::Nothing
+    None
 }
 
 // The verb's digest, which stands in scratch at the slot of its number.
@@ -147,7 +144,7 @@ fn full_digest(tree: &[u8], text: &[u8], scratch: &[u8], call: Call) -> u32
 
 // The verb with `$` and the key text of each type: of the functions in its digest's bucket few have another digest, and of those with the digest few
 // another key.
-fn by_full_name(tree: &[u8], text: &[u8], scratch: &[u8], call: Call) -> Found
+fn by_full_name(tree: &[u8], text: &[u8], scratch: &[u8], call: Call) -> Option<usize>
     requires keyed { Keyed tree.now text.now scratch.now }
     requires called { Called tree.now text.now scratch.now call }
     ensures { FunctionIs tree.now text.now result (by_full_name tree.now text.now scratch.now call) }
@@ -169,23 +166,21 @@ fn by_full_name(tree: &[u8], text: &[u8], scratch: &[u8], call: Call) -> Found
         }
         at = key_before(scratch, n, f);
     }
-    Found::Nothing
+    None
 }
 
 // The same where there are no arguments: the whole name is the verb.
-fn by_verb(tree: &[u8], text: &[u8], scratch: &[u8], call: Call) -> Found
+fn by_verb(tree: &[u8], text: &[u8], scratch: &[u8], call: Call) -> Option<usize>
     requires keyed { Keyed tree.now text.now scratch.now }
     requires called { Called tree.now text.now scratch.now call × (call.count ≡ 0) }
     ensures { FunctionIs tree.now text.now result (by_full_name tree.now text.now scratch.now call) }
 {
-    if let Found::At(f) = find_key(tree, text, scratch, call.verb) {
-        return mangled_only(tree, text, f);
-    }
-    Found::Nothing
+    let f = find_key(tree, text, scratch, call.verb)?;
+    mangled_only(tree, text, f)
 }
 
 // The verb with its types, which are looked at only where there are any.
-fn by_whole_name(tree: &[u8], text: &[u8], scratch: &[u8], call: Call) -> Found
+fn by_whole_name(tree: &[u8], text: &[u8], scratch: &[u8], call: Call) -> Option<usize>
     requires keyed { Keyed tree.now text.now scratch.now }
     requires called { Called tree.now text.now scratch.now call }
     ensures { FunctionIs tree.now text.now result (by_full_name tree.now text.now scratch.now call) }
@@ -250,7 +245,7 @@ fn by_marked(
     k: usize,
     size: usize,
     digest: u32,
-) -> Found
+) -> Option<usize>
     requires keyed { Keyed tree.now text.now scratch.now }
     requires called { Called tree.now text.now scratch.now call }
     requires k_le_count { (k ≤ call.count) × (size ≡ length (name_of tree.now text.now scratch.now call k)) × (digest ≡ roll_of (name_of tree.now text.now scratch.now call k ++ variadic_mark)) }
@@ -268,26 +263,16 @@ fn by_marked(
         }
         at = key_before(scratch, n, f);
     }
-    Found::Nothing
-}
-
-// What was found last.
-fn later(first: Found, then: Found) -> Found
-    ensures { result ≡ later_of first then }
-{
-    match then {
-        Found::At(f) => Found::At(f),
-        Found::Nothing => first,
-    }
+    None
 }
 
 // The Rust's `variadic`, the longest prefix with `$...`: each prefix is looked for by its digest, from the shortest on, and the last that is found is kept.
-fn by_prefix(tree: &[u8], text: &[u8], scratch: &[u8], call: Call) -> Found
+fn by_prefix(tree: &[u8], text: &[u8], scratch: &[u8], call: Call) -> Option<usize>
     requires keyed { Keyed tree.now text.now scratch.now }
     requires called { Called tree.now text.now scratch.now call }
     ensures { FunctionIs tree.now text.now result (by_prefix tree.now text.now scratch.now call) }
 {
-    let mut best = Found::Nothing;
+    let mut best = None;
     let mut digest = verb_digest(tree, text, scratch, call);
     let mut size = call.len;
     let mut cell = call.first;
@@ -295,7 +280,7 @@ fn by_prefix(tree: &[u8], text: &[u8], scratch: &[u8], call: Call) -> Found
     while cell != END {
         let marked = marked_digest(digest);
         let found = by_marked(tree, text, scratch, call, k, size, marked);
-        best = later(best, found);
+        best = found.or(best);
         let key = type_key(tree, text, argument_type(tree, text, scratch, cell));
         digest = roll(text, roll_byte(digest, DOLLAR), key.offset, key.len);
         size = size + 1 + key.len;
@@ -303,19 +288,24 @@ fn by_prefix(tree: &[u8], text: &[u8], scratch: &[u8], call: Call) -> Found
         k += 1;
     }
     let marked = marked_digest(digest);
-    later(best, by_marked(tree, text, scratch, call, k, size, marked))
+    by_marked(tree, text, scratch, call, k, size, marked).or(best)
 }
 
-pub(crate) fn find_exact_function(tree: &[u8], text: &[u8], scratch: &[u8], call: Call) -> Found
+pub(crate) fn find_exact_function(
+    tree: &[u8],
+    text: &[u8],
+    scratch: &[u8],
+    call: Call,
+) -> Option<usize>
     requires keyed { Keyed tree.now text.now scratch.now }
     requires called { Called tree.now text.now scratch.now call }
     ensures { FunctionIs tree.now text.now result (exactly tree.now text.now scratch.now call) }
 {
-    if let Found::At(f) = by_name(tree, text, scratch, call) {
-        return Found::At(f);
+    if let Some(f) = by_name(tree, text, scratch, call) {
+        return Some(f);
     }
-    if let Found::At(f) = by_whole_name(tree, text, scratch, call) {
-        return Found::At(f);
+    if let Some(f) = by_whole_name(tree, text, scratch, call) {
+        return Some(f);
     }
     by_prefix(tree, text, scratch, call)
 }

@@ -9,15 +9,14 @@ ghost use Rattle.syntax.specs.Places.{IsExpr, IsKind};
 ghost use Rattle.expressions.specs.Slots.{in_turn, Typing};
 ghost use Rattle.expressions.specs.Answers.{TypeMeets, ArgsMeet, CallMeets, CommonMeets, SidesMeet};
 
-use crate::answers::{Common, ExprType, Outcome, Resolved};
+use crate::answers::Callee;
 use crate::arguments::{Argument, END, argument_at, next_cell, slot};
 use crate::calls::{callee_at, callee_record, resolve_typed};
-use crate::operands::{
-    binary_type, both_sides, common_of, found_record, leaf_type, unary_type, value_type,
-};
+use crate::operands::{binary_type, both_sides, common_of, leaf_type, unary_type, value_type};
 use crate::turns::{NOTHING, beside, is_typed, keep};
+use records::convert_error::ConvertError;
 use records::numbers::{KIND_BINARY, KIND_CALL, KIND_UNARY};
-use records::words::{Found, WORD_A, WORD_B, WORD_C, kind, reference};
+use records::words::{WORD_A, WORD_B, WORD_C, kind, reference};
 use scope::Scope;
 
 // The type of the expression e, once its names and calls are checked; it is worked out once in a turn.
@@ -29,13 +28,13 @@ pub fn get_type(
     scope: Scope,
     turn: u32,
     e: usize,
-) -> ExprType
+) -> Result<usize, ConvertError>
     requires typing { Typing tree.now text.now scratch.old scope turn }
     requires expr { IsExpr tree.now e }
     ensures { TypeMeets tree.now text.now scratch.old scope turn e result scratch.new }
 {
     if is_typed(tree, scratch, turn, e) {
-        return ExprType::Is(slot(tree, scratch, e));
+        return Ok(slot(tree, scratch, e));
     }
     work_out(tree, text, scratch, scope, turn, e)
 }
@@ -49,7 +48,7 @@ fn work_out(
     scope: Scope,
     turn: u32,
     e: usize,
-) -> ExprType
+) -> Result<usize, ConvertError>
     requires typing { Typing tree.now text.now scratch.old scope turn }
     requires expr { IsExpr tree.now e × (in_turn tree.now turn scratch.old e ≡ false) }
     ensures { TypeMeets tree.now text.now scratch.old scope turn e result scratch.new }
@@ -57,32 +56,18 @@ fn work_out(
     let k = kind(tree, e);
     let left = reference(tree, e, WORD_A);
     if k == KIND_UNARY {
-        return match get_type(tree, text, scratch, scope, turn, left) {
-            ExprType::Refused(x) => ExprType::Refused(x),
-            ExprType::Is(ty) => keep(
-                tree,
-                scratch,
-                turn,
-                e,
-                unary_type(tree, text, e, ty),
-                NOTHING,
-            ),
-        };
+        let ty = get_type(tree, text, scratch, scope, turn, left)?;
+        let a = unary_type(tree, text, e, ty);
+        return keep(tree, scratch, turn, e, a, NOTHING);
     }
     if k == KIND_BINARY {
         let right = reference(tree, e, WORD_B);
-        return match get_type(tree, text, scratch, scope, turn, left) {
-            ExprType::Refused(x) => ExprType::Refused(x),
-            ExprType::Is(l) => match get_type(tree, text, scratch, scope, turn, right) {
-                ExprType::Refused(x) => ExprType::Refused(x),
-                ExprType::Is(r) => {
-                    let sides = both_sides(left, l, right, r);
-                    let common = common_of(tree, text, sides);
-                    let a = binary_type(tree, text, e, sides, common);
-                    keep(tree, scratch, turn, e, a, found_record(common))
-                }
-            },
-        };
+        let l = get_type(tree, text, scratch, scope, turn, left)?;
+        let r = get_type(tree, text, scratch, scope, turn, right)?;
+        let sides = both_sides(left, l, right, r);
+        let common = common_of(tree, text, sides);
+        let a = binary_type(tree, text, e, sides, common);
+        return keep(tree, scratch, turn, e, a, common.unwrap_or(NOTHING));
     }
     if k == KIND_CALL {
         let callee = find_callee(tree, text, scratch, scope, turn, e);
@@ -101,13 +86,13 @@ pub fn resolve_call(
     scope: Scope,
     turn: u32,
     r: usize,
-) -> Resolved
+) -> Result<Callee, ConvertError>
     requires typing { Typing tree.now text.now scratch.old scope turn }
     requires kind { IsKind tree.now kind_call r }
     ensures { CallMeets tree.now text.now scratch.old scope turn r result scratch.new }
 {
     if is_typed(tree, scratch, turn, r) {
-        return callee_at(tree, beside(tree, scratch, r));
+        return Ok(callee_at(tree, beside(tree, scratch, r)));
     }
     find_callee(tree, text, scratch, scope, turn, r)
 }
@@ -121,15 +106,13 @@ fn find_callee(
     scope: Scope,
     turn: u32,
     r: usize,
-) -> Resolved
+) -> Result<Callee, ConvertError>
     requires typing { Typing tree.now text.now scratch.old scope turn }
     requires kind { IsKind tree.now kind_call r }
     ensures { CallMeets tree.now text.now scratch.old scope turn r result scratch.new }
 {
-    match get_argument_types(tree, text, scratch, scope, turn, r) {
-        Outcome::Refused(x) => Resolved::Refused(x),
-        Outcome::Done => resolve_typed(tree, text, scratch, r),
-    }
+    get_argument_types(tree, text, scratch, scope, turn, r)?;
+    resolve_typed(tree, text, scratch, r)
 }
 
 // Types each argument of the call of record r; the types stand in scratch, each at its expression's slot.
@@ -141,7 +124,7 @@ fn get_argument_types(
     scope: Scope,
     turn: u32,
     r: usize,
-) -> Outcome
+) -> Result<(), ConvertError>
     requires typing { Typing tree.now text.now scratch.old scope turn }
     requires kind { IsKind tree.now kind_call r }
     ensures { ArgsMeet tree.now text.now scratch.old scope turn (word_of tree.now r Words.C) result scratch.new }
@@ -149,13 +132,11 @@ fn get_argument_types(
     let mut cell = reference(tree, r, WORD_C);
     while cell != END {
         if let Argument::Expr(e) = argument_at(tree, text, cell) {
-            if let ExprType::Refused(x) = get_type(tree, text, scratch, scope, turn, e) {
-                return Outcome::Refused(x);
-            }
+            get_type(tree, text, scratch, scope, turn, e)?;
         }
         cell = next_cell(tree, cell);
     }
-    Outcome::Done
+    Ok(())
 }
 
 // The type that both sides of the Binary e take: it is kept where the type of e was worked out in this turn.
@@ -166,13 +147,13 @@ pub fn common_type(
     scope: Scope,
     turn: u32,
     e: usize,
-) -> Common
+) -> Result<Option<usize>, ConvertError>
     requires typing { Typing tree.now text.now scratch.old scope turn }
     requires kind { IsKind tree.now kind_binary e }
     ensures { SidesMeet tree.now text.now scratch.old scope turn e result scratch.new }
 {
     if is_typed(tree, scratch, turn, e) {
-        return Common::Is(beside(tree, scratch, e));
+        return Ok(Some(beside(tree, scratch, e)));
     }
     let left = reference(tree, e, WORD_A);
     let right = reference(tree, e, WORD_B);
@@ -188,20 +169,13 @@ fn find_common(
     turn: u32,
     left: usize,
     right: usize,
-) -> Common
+) -> Result<Option<usize>, ConvertError>
     requires typing { Typing tree.now text.now scratch.old scope turn }
     requires expr { IsExpr tree.now left }
     requires expr_2 { IsExpr tree.now right }
     ensures { CommonMeets tree.now text.now scratch.old scope turn left right result scratch.new }
 {
-    match get_type(tree, text, scratch, scope, turn, left) {
-        ExprType::Refused(x) => Common::Refused(x),
-        ExprType::Is(l) => match get_type(tree, text, scratch, scope, turn, right) {
-            ExprType::Refused(x) => Common::Refused(x),
-            ExprType::Is(r) => match common_of(tree, text, both_sides(left, l, right, r)) {
-                Found::At(y) => Common::Is(y),
-                Found::Nothing => Common::Neither,
-            },
-        },
-    }
+    let l = get_type(tree, text, scratch, scope, turn, left)?;
+    let r = get_type(tree, text, scratch, scope, turn, right)?;
+    Ok(common_of(tree, text, both_sides(left, l, right, r)))
 }

@@ -6,11 +6,11 @@ ghost use Rattle.expressions.specs.Slots.{Asked, NameDeclared};
 
 use ir::structs::VarId;
 use records::words::{WORD_A, WORD_B, word};
-use scope::{Declared, Known, Scope};
+use scope::{Known, Scope};
 use texts::original;
 
 // The variable of the name in words A and B of record r.
-pub fn find_name(tree: &[u8], text: &[u8], scratch: &[u8], scope: Scope, r: usize) -> Known
+pub fn find_name(tree: &[u8], text: &[u8], scratch: &[u8], scope: Scope, r: usize) -> Option<Known>
     requires { Asked tree.now text.now scratch.now scope r }
     ensures { FindMeets text.now scratch.now scope (text_of tree.now text.now r Words.A) result }
 {
@@ -29,7 +29,7 @@ pub fn declare_name(
     r: usize,
     v: VarId,
     constant: bool,
-) -> Declared
+) -> Option<Scope>
     requires { Asked tree.now text.now scratch.old scope r × NameAfforded scope v }
     ensures { NameDeclared tree.now text.now r v constant scope scratch.old scratch.new result }
 {

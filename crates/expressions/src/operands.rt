@@ -1,5 +1,5 @@
 // expressions.rs: the types of expressions from those of their operands, and of those that have none.
-ghost use Rattle.std.specs.Prelude.{◌≡◌, List, ℕ, ◌+◌, ◌*◌, ◌≤◌, ◌<◌, length, get_or};
+ghost use Rattle.std.specs.Prelude.{◌≡◌, List, ℕ, ◌+◌, ◌*◌, ◌≤◌, ◌<◌, length, get_or, Err};
 ghost use Rattle.records.specs.Words.{record_bytes, kind_of, records};
 ghost use Rattle.records.specs.Kinds.{kind_name, kind_size_of, kind_unary, kind_binary};
 ghost use Rattle.records.specs.Good.{Good};
@@ -13,47 +13,42 @@ ghost use Rattle.texts.specs.Texts.{Numbered};
 ghost use Rattle.keys.specs.Keys.{all_keys};
 ghost use Rattle.expressions.specs.Slots.{Scoped, type_in};
 ghost use Rattle.conversion.specs.ConvertError.{ok};
-ghost use Rattle.expressions.specs.Answers.{found_record, value_result, IsCallee, Operands, TypeIs, FoundIs, Accepts, unary_type_at, common_at, binary_error_at, binary_type_at};
+ghost use Rattle.expressions.specs.Answers.{value_result, IsCallee, Operands, TypeIs, FoundIs, Accepts, unary_type_at, common_at, binary_error_at, binary_type_at};
 
-use crate::answers::{ExprType, Resolved};
+use crate::answers::Callee;
 use crate::names::find_name;
-use crate::turns::NOTHING;
 use records::convert_error::{ConvertError, ConvertErrorKind};
 use records::numbers::{
     ADDRESS_OF_CHAR, BIT_NOT, BOOL_TYPE, FLOAT_LONG, FORM_INT, KIND_BOOL, KIND_FLOAT, KIND_INT,
     KIND_NAME, KIND_NULL, KIND_STR, NOT, NULL_TYPE, UNSIGNED_LONG,
 };
-use records::words::{Found, NONE, WORD_D, detail, kind, reference};
-use scope::{Known, Scope};
+use records::words::{NONE, WORD_D, detail, kind, reference};
+use scope::Scope;
 use types::fits::{fits, range_error};
 use types::form::{form, is_number};
-use types::operators::{ANY, BOOL, BOOLS, NUMBERS, operator_of};
+use types::operators::{OperandClass, ResultClass, operator_of};
 
-pub(crate) fn refuse_type(kind: ConvertErrorKind, place: usize) -> ExprType
+pub(crate) fn refuse_type(kind: ConvertErrorKind, place: usize) -> Result<usize, ConvertError>
     requires { place < 4294967296 }
-    ensures { result ≡ ExprType.Refused (record { kind = kind; place = place }) }
+    ensures { result ≡ Err (record { kind = kind; place = place }) }
 {
-    ExprType::Refused(ConvertError {
+    Err(ConvertError {
         kind,
         place: place as u32,
     })
 }
 
 // Whether an operator's class of operands has this type.
-fn accepts(tree: &[u8], class: u8, ty: usize) -> bool
+fn accepts(tree: &[u8], class: OperandClass, ty: usize) -> bool
     requires { ty * record_bytes + record_bytes ≤ length tree.now }
     ensures { (text : List ℕ) → Accepts tree.now text class ty result }
 {
-    if class == BOOLS {
-        return ty == BOOL_TYPE;
+    match class {
+        OperandClass::Bools => ty == BOOL_TYPE,
+        OperandClass::Any => true,
+        OperandClass::Numbers => is_number(tree, ty),
+        OperandClass::Integers => form(tree, ty) == FORM_INT,
     }
-    if class == ANY {
-        return true;
-    }
-    if class == NUMBERS {
-        return is_number(tree, ty);
-    }
-    form(tree, ty) == FORM_INT
 }
 
 // Neg takes numbers, BitNot integers, Not Bool.
@@ -61,24 +56,27 @@ fn accepts_unary(tree: &[u8], op: u8, ty: usize) -> bool
     requires { ty * record_bytes + record_bytes ≤ length tree.now }
     ensures { (text : List ℕ) → result ≡ accepts_unary (program tree.now text) (all_keys tree.now text) (get_or unary_ops op Neg) ty }
 {
-    if op == BIT_NOT {
-        return form(tree, ty) == FORM_INT;
+    match op {
+        BIT_NOT => form(tree, ty) == FORM_INT,
+        NOT => ty == BOOL_TYPE,
+        _ => is_number(tree, ty),
     }
-    if op == NOT {
-        return ty == BOOL_TYPE;
-    }
-    is_number(tree, ty)
 }
 
 // The type of the Unary e, whose operand has type ty.
-pub(crate) fn unary_type(tree: &[u8], text: &[u8], e: usize, ty: usize) -> ExprType
+pub(crate) fn unary_type(
+    tree: &[u8],
+    text: &[u8],
+    e: usize,
+    ty: usize,
+) -> Result<usize, ConvertError>
     requires good { Good tree.now text.now }
     requires kind { IsKind tree.now kind_unary e }
     requires type_at { TypeAt tree.now ty }
     ensures { TypeIs tree.now result (unary_type_at tree.now text.now e ty) }
 {
     if accepts_unary(tree, detail(tree, e), ty) {
-        return ExprType::Is(ty);
+        return Ok(ty);
     }
     refuse_type(ConvertErrorKind::WrongOperands, e)
 }
@@ -104,33 +102,23 @@ pub(crate) fn both_sides(left: usize, left_type: usize, right: usize, right_type
 }
 
 // The type that both take: a literal takes the type of the other side.
-pub(crate) fn common_of(tree: &[u8], text: &[u8], s: Sides) -> Found
+pub(crate) fn common_of(tree: &[u8], text: &[u8], s: Sides) -> Option<usize>
     requires good { Good tree.now text.now }
     requires operands { Operands tree.now s }
     ensures { FoundIs tree.now result (common_at tree.now text.now s) }
 {
     if fits(tree, s.right, s.right_type, s.left_type) {
-        return Found::At(s.left_type);
+        return Some(s.left_type);
     }
     if fits(tree, s.left, s.left_type, s.right_type) {
-        return Found::At(s.right_type);
+        return Some(s.right_type);
     }
-    Found::Nothing
-}
-
-// The record of the type that was found.
-pub(crate) fn found_record(found: Found) -> usize
-    ensures { result ≡ found_record found }
-{
-    match found {
-        Found::At(y) => y,
-        Found::Nothing => NOTHING,
-    }
+    None
 }
 
 // Where they take no common type that the Binary e accepts: a constant out of the other side's range, the right one
 // first, else WrongOperands.
-fn binary_error(tree: &[u8], text: &[u8], e: usize, s: Sides) -> ExprType
+fn binary_error(tree: &[u8], text: &[u8], e: usize, s: Sides) -> Result<usize, ConvertError>
     requires good { Good tree.now text.now }
     requires operands { Operands tree.now s }
     requires kind { IsKind tree.now kind_binary e }
@@ -146,7 +134,13 @@ fn binary_error(tree: &[u8], text: &[u8], e: usize, s: Sides) -> ExprType
 }
 
 // The type of the Binary e, from the type that both sides take.
-pub(crate) fn binary_type(tree: &[u8], text: &[u8], e: usize, s: Sides, common: Found) -> ExprType
+pub(crate) fn binary_type(
+    tree: &[u8],
+    text: &[u8],
+    e: usize,
+    s: Sides,
+    common: Option<usize>,
+) -> Result<usize, ConvertError>
     requires good { Good tree.now text.now }
     requires operands { Operands tree.now s }
     requires kind { IsKind tree.now kind_binary e }
@@ -154,33 +148,35 @@ pub(crate) fn binary_type(tree: &[u8], text: &[u8], e: usize, s: Sides, common: 
     ensures { TypeIs tree.now result (binary_type_at tree.now text.now e s) }
 {
     let op = operator_of(detail(tree, e) as usize);
-    if let Found::At(ty) = common {
-        if accepts(tree, op.operands, ty) {
-            if op.result == BOOL {
-                return ExprType::Is(BOOL_TYPE);
-            }
-            return ExprType::Is(ty);
-        }
+    match common {
+        Some(ty) if accepts(tree, op.operands, ty) => match op.result {
+            ResultClass::Common => Ok(ty),
+            ResultClass::Bool => Ok(BOOL_TYPE),
+        },
+        _ => binary_error(tree, text, e, s),
     }
-    binary_error(tree, text, e, s)
 }
 
 // The type of the Call e: what its callee gives back.
-pub(crate) fn value_type(tree: &[u8], text: &[u8], e: usize, callee: Resolved) -> ExprType
+pub(crate) fn value_type(
+    tree: &[u8],
+    text: &[u8],
+    e: usize,
+    callee: Result<Callee, ConvertError>,
+) -> Result<usize, ConvertError>
     requires good { Good tree.now text.now }
     requires callee { IsCallee tree.now callee }
     requires e_bound { e < records tree.now }
     ensures { TypeIs tree.now result (value_result tree.now text.now e callee) }
 {
-    match callee {
-        Resolved::Refused(x) => ExprType::Refused(x),
-        Resolved::Cast(y) => ExprType::Is(y),
-        Resolved::Function(f) => {
+    match callee? {
+        Callee::Cast(y) => Ok(y),
+        Callee::Function(f) => {
             let y = reference(tree, f, WORD_D);
             if y == NONE as usize {
                 return refuse_type(ConvertErrorKind::NoValue, e);
             }
-            ExprType::Is(y)
+            Ok(y)
         }
     }
 }
@@ -192,37 +188,34 @@ fn literal_type(tree: &[u8], text: &[u8], e: usize) -> usize
     requires e_bound { (kind_of tree.now e ≤ kind_size_of) × (kind_of tree.now e ≡ kind_name → ⊥) }
     ensures { TypeAt tree.now result × ((S : Def.Scope) → type_in tree.now text.now S e ≡ ok result) }
 {
-    let k = kind(tree, e);
     let mark = detail(tree, e) as usize;
-    if k == KIND_INT {
-        return mark;
+    match kind(tree, e) {
+        KIND_INT => mark,
+        KIND_FLOAT => FLOAT_LONG + mark,
+        KIND_STR => ADDRESS_OF_CHAR,
+        KIND_BOOL => BOOL_TYPE,
+        KIND_NULL => NULL_TYPE,
+        _ => UNSIGNED_LONG,
     }
-    if k == KIND_FLOAT {
-        return FLOAT_LONG + mark;
-    }
-    if k == KIND_STR {
-        return ADDRESS_OF_CHAR;
-    }
-    if k == KIND_BOOL {
-        return BOOL_TYPE;
-    }
-    if k == KIND_NULL {
-        return NULL_TYPE;
-    }
-    UNSIGNED_LONG
 }
 
 // The type of the Name e.
-fn name_type(tree: &[u8], text: &[u8], scratch: &[u8], scope: Scope, e: usize) -> ExprType
+fn name_type(
+    tree: &[u8],
+    text: &[u8],
+    scratch: &[u8],
+    scope: Scope,
+    e: usize,
+) -> Result<usize, ConvertError>
     requires good { Good tree.now text.now × Numbered tree.now text.now scratch.now }
     requires scoped { Scoped tree.now scratch.now scope }
     requires kind { IsKind tree.now kind_name e }
     ensures { TypeIs tree.now result (type_in tree.now text.now (scope_at tree.now text.now scratch.now scope) e) }
 {
-    match find_name(tree, text, scratch, scope, e) {
-        Known::Is(v, _) => ExprType::Is(v.1 as usize),
-        Known::Unknown => refuse_type(ConvertErrorKind::UnknownVariable, e),
-    }
+    let Some(known) = find_name(tree, text, scratch, scope, e) else {
+        return refuse_type(ConvertErrorKind::UnknownVariable, e);
+    };
+    Ok(known.var.1 as usize)
 }
 
 // The type of an expression without operands.
@@ -232,7 +225,7 @@ pub(crate) fn leaf_type(
     scratch: &[u8],
     scope: Scope,
     e: usize,
-) -> ExprType
+) -> Result<usize, ConvertError>
     requires good { Good tree.now text.now × Numbered tree.now text.now scratch.now }
     requires scoped { Scoped tree.now scratch.now scope }
     requires expr { IsExpr tree.now e }
@@ -242,5 +235,5 @@ pub(crate) fn leaf_type(
     if kind(tree, e) == KIND_NAME {
         return name_type(tree, text, scratch, scope, e);
     }
-    ExprType::Is(literal_type(tree, text, e))
+    Ok(literal_type(tree, text, e))
 }

@@ -3,11 +3,11 @@
 // that it was worked out in.
 ghost use Rattle.std.specs.Prelude.{◌≡◌, ◌+◌, ◌*◌, ◌≤◌, ◌<◌, length};
 ghost use Rattle.records.specs.Layout.{scratch_each};
-ghost use Rattle.records.specs.Words.{records};
+ghost use Rattle.records.specs.Words.{records, word_at};
 ghost use Rattle.expressions.specs.Slots.{in_turn, visits_at, beside_at, after_visit, Forgets};
 ghost use Rattle.expressions.specs.Answers.{Keepable, Keeps};
 
-use crate::answers::ExprType;
+use records::convert_error::ConvertError;
 use records::layout::{
     BESIDE_BYTES, BESIDES, SCRATCH, TURN_BYTES, TURNS, TYPE_SLOT_BYTES, TYPE_SLOTS,
 };
@@ -16,13 +16,21 @@ use records::words::{RECORD_BYTES, load, put_word};
 // What is kept beside the type of an expression that is neither a call nor a Binary.
 pub(crate) const NOTHING: usize = 0;
 
+// The word of record e in a region of scratch: where the region begins, in bytes a record, and how long each entry is.
+pub(crate) fn entry(tree: &[u8], scratch: &[u8], region: usize, each: usize, e: usize) -> u32
+    requires { region * records tree.now + each * e + 4 ≤ length scratch.now }
+    ensures { result ≡ word_at scratch.now (region * records tree.now + each * e) }
+{
+    let n = tree.len() / RECORD_BYTES;
+    load(scratch, region * n + each * e)
+}
+
 // Whether the type of e was worked out in this turn.
 pub(crate) fn is_typed(tree: &[u8], scratch: &[u8], turn: u32, e: usize) -> bool
     requires { (e < records tree.now) × (scratch_each * records tree.now ≤ length scratch.now) }
     ensures { result ≡ in_turn tree.now turn scratch.now e }
 {
-    let n = tree.len() / RECORD_BYTES;
-    load(scratch, TURNS * n + TURN_BYTES * e) == turn
+    entry(tree, scratch, TURNS, TURN_BYTES, e) == turn
 }
 
 // A visit: the type y of e was worked out in this turn, and b is kept beside it.
@@ -45,19 +53,15 @@ pub(crate) fn keep(
     scratch: &mut [u8],
     turn: u32,
     e: usize,
-    a: ExprType,
+    a: Result<usize, ConvertError>,
     b: usize,
-) -> ExprType
+) -> Result<usize, ConvertError>
     requires { Keepable tree.now e a b scratch.old }
     ensures { Keeps tree.now turn e a b scratch.old result scratch.new }
 {
-    match a {
-        ExprType::Refused(x) => ExprType::Refused(x),
-        ExprType::Is(y) => {
-            visit(tree, scratch, turn, e, y, b);
-            ExprType::Is(y)
-        }
-    }
+    let y = a?;
+    visit(tree, scratch, turn, e, y, b);
+    Ok(y)
 }
 
 // What is kept beside the type of e.
@@ -65,8 +69,7 @@ pub(crate) fn beside(tree: &[u8], scratch: &[u8], e: usize) -> usize
     requires { (e < records tree.now) × (scratch_each * records tree.now ≤ length scratch.now) }
     ensures { result ≡ beside_at tree.now scratch.now e }
 {
-    let n = tree.len() / RECORD_BYTES;
-    load(scratch, BESIDES * n + BESIDE_BYTES * e) as usize
+    entry(tree, scratch, BESIDES, BESIDE_BYTES, e) as usize
 }
 
 // No type is known and no visit made, whatever the scratch held.
@@ -75,11 +78,7 @@ pub fn forget(tree: &[u8], scratch: &mut [u8])
     ensures { Forgets tree.now scratch.old scratch.new }
 {
     let n = tree.len() / RECORD_BYTES;
-    let mut i = TURNS * n;
-    while i < SCRATCH * n {
-        scratch[i] = 0;
-        i += 1;
-    }
+    scratch[TURNS * n..SCRATCH * n].fill(0);
 }
 
 // How many visits were made.

@@ -40,7 +40,7 @@ use Rattle.scope.specs.declared.Scope.{Scope}
 use Rattle.scope.specs.Open.{variables_at, scope_at}
 use Rattle.keys.specs.Keys.{all_keys, Keyed}
 use Rattle.expressions.specs.Slots.{Ready}
-use Rattle.expressions.specs.Answers.{refusal}
+use Rattle.expressions.specs.Answers.{Answer, refusal}
 use Rattle.statements.specs.Lent.{Converter, Finished}
 use Rattle.statements.specs.Converting.{Converting, RoomFor, block_amount, BlockAfforded, Stays, StaysFor}
 use Rattle.statements.specs.Meets.{Adds, texts_of}
@@ -51,7 +51,7 @@ use Rattle.statements.proofs.EmitLaws.{var_adds}
 use Rattle.statements.proofs.StayLaws.{stays_refl, stays_then, loop-outside}
 use Rattle.statements.proofs.StatedLaws.{finished-next, finished-stop}
 use Rattle.statements.proofs.TurnLaws.{turns_refl, turns_stay, turns_later, visits_stay, visited_stay, visited_later}
-use Rattle.functions.specs.declared.parameters.Parameters.{Parameters}
+use Rattle.std.specs.Prelude.{Ok, Err}
 use Rattle.functions.specs.Parameters.{parameter_of, with_params, empty_in, ParametersMeet}
 use Rattle.functions.proofs.Members.{function_at-most}
 use Rattle.functions.specs.Bodies.{new_vars, begun, FunctionsAfforded, FunctionSpent, FunctionStands, FunctionDone, ConvertsFunction, body_steps, BodyStands, BodyDone, ConvertsBody, BodyAs, FunctionVisited}
@@ -103,9 +103,6 @@ module _ {tree text : List ℕ} (good : Good tree text) {f : ℕ} (at : Function
 
   pub body-list : {w : ℕ} → w ≡ word_of tree f E → BodyAt tree w
   body-list e = rw e (body_is tree text good f at)
-
-  pub function-small : f < 4294967296
-  function-small = omega (arith, at.below, good.few)
 
 -- ---- the parameters' variables
 
@@ -185,9 +182,6 @@ module _ {tree text : List ℕ} (good : Good tree text) {f : ℕ} {k₀ k : Coun
 
 -- ---- the body
 
-pub block_afforded : (tree text : List ℕ) {c : Converter} (f w : ℕ) → w ≡ word_of tree f E → BlockAfforded tree text c (word_of tree f E) → BlockAfforded tree text c w
-block_afforded tree text {c} f w e h = subst (λ (x : ℕ). BlockAfforded tree text c x) (sym e) h
-
 module _ {tree text l l' s s' : List ℕ} {m : M (Unit {0})} {f : ℕ} {c : Converter} (long : length l' ≡ length l) (stays : StaysFor tree c s s') where
   body-gives : {k : Counters} → BodyDone tree text m f c.counters l k l' → ConvertsBody tree text m f c l s (Finished.Done k) l' s'
   body-gives {k} p = record {
@@ -249,9 +243,6 @@ module _ {tree text l l₁ s s₁ : List ℕ} {c : Converter} (f : ℕ) {w : ℕ
         (then_in (texts_of tree text) (behind tree text f) (finished-next block_as q).next
         (subst (λ (m : M (Unit {0})). NextIn (texts_of tree text) m k l₁ tt k l₁) (sym (behind-is false e)) (next_in (texts_of tree text) (pure-next tt k l₁ (finished-next block_as q).next.room))))
 
-    pub entry-room : c.counters.functions < c.counters.records → Room k l₁ × (k.functions < k.records)
-    entry-room h = let p = finished-next block_as q in (p.next.room, omega (arith, h, p.spent.functions, p.spent.records))
-
     pub body-done : {k' : Counters} {l₂ : List ℕ} → b ≡ false → length l₂ ≡ length l₁ → Closes f true k l₁ k' l₂ → BodyAs c f tree text l s (Finished.Done k') l₂ s₁
     body-done {k'} {l₂} e h p =
         body-gives (h ∙ i.meets.long) i.stays (record {
@@ -312,22 +303,22 @@ module _ (tree text : List ℕ) (f : ℕ) (s s₁ : List ℕ) where
     pub function : sc.function ≡ f
     pub names : sc.names ≡ length (function_of tree text f).params
 
-  declared : {a : Parameters} → ParametersMeet tree text f s s₁ a → {sc : Scope} → a ≡ Parameters.Done sc → Declared sc
+  declared : {a : Answer Scope} → ParametersMeet tree text f s s₁ a → {sc : Scope} → a ≡ Ok sc → Declared sc
   unfolding scope_at
   declared p {sc} q = go (subst (ParametersMeet tree text f s s₁) q p)
     where
       count : with_params (function_of tree text f).params 0 (empty_in tree text f) ≡ ok (scope_at tree text s₁ sc) → sc.names ≡ length (function_of tree text f).params
       count e = omega (arith, names_more (function_of tree text f).params 0 (empty_in tree text f) (scope_at tree text s₁ sc) e, open_count text s₁ sc.records sc.names)
 
-      go : ParametersMeet tree text f s s₁ (Parameters.Done sc) → Declared sc
+      go : ParametersMeet tree text f s s₁ (Ok sc) → Declared sc
       go (ParametersMeet.done asked ready inner function only bytes) = record { asked = asked; ready = ready; no_loop = inner; function = function; names = count asked }
 
-  not_declared : {a : Parameters} → ParametersMeet tree text f s s₁ a → {x : ConvertError} → a ≡ Parameters.Refused x
+  not_declared : {a : Answer Scope} → ParametersMeet tree text f s s₁ a → {x : ConvertError} → a ≡ Err x
       → with_params (function_of tree text f).params 0 (empty_in tree text f) ≡ err x.kind x.place
   unfolding refusal
   not_declared p {x} q = go (subst (ParametersMeet tree text f s s₁) q p)
     where
-      go : ParametersMeet tree text f s s₁ (Parameters.Refused x) → with_params (function_of tree text f).params 0 (empty_in tree text f) ≡ err x.kind x.place
+      go : ParametersMeet tree text f s s₁ (Err x) → with_params (function_of tree text f).params 0 (empty_in tree text f) ≡ err x.kind x.place
       go (ParametersMeet.refused asked only bytes) = asked
 
 -- ---- the function
@@ -448,7 +439,7 @@ module _ {tree text l s : List ℕ} {f : ℕ} {k : Counters} (keyed : Keyed tree
   unfolding function_records
   vars-room = record { room = room; affords = omega (arith, h.tables, room) }
 
-  module _ {b : Bool} (eb : b ≡ is_some (function_of tree text f).body) (q : not b ≡ false) {s₁ : List ℕ} {a : Parameters} (p : ParametersMeet tree text f s s₁ a) where
+  module _ {b : Bool} (eb : b ≡ is_some (function_of tree text f).body) (q : not b ≡ false) {s₁ : List ℕ} {a : Answer Scope} (p : ParametersMeet tree text f s s₁ a) where
     the_body : (function_of tree text f).body ≡ some (block_at tree text (word_of tree f E))
     the_body = body-there keyed.good at eb q
 
@@ -456,7 +447,7 @@ module _ {tree text l s : List ℕ} {f : ℕ} {k : Counters} (keyed : Keyed tree
     unfolding function_records body_records
     record_count = ap (λ (o : Option Block). 3 + (2 * length (function_of tree text f).params + body_records o)) the_body
 
-    pub function-refused : {x : ConvertError} → a ≡ Parameters.Refused x → ConvertsFunction tree text f k l s (Finished.Refused x) l s₁
+    pub function-refused : {x : ConvertError} → a ≡ Err x → ConvertsFunction tree text f k l s (Finished.Refused x) l s₁
     function-refused {x} d =
         function-stops refl (only-stays (names-only p))
         (λ before pool held. refused_run tree text f pool the_body (not_declared tree text f s s₁ p d))
@@ -470,7 +461,7 @@ module _ {tree text l s : List ℕ} {f : ℕ} {k : Counters} (keyed : Keyed tree
         subst (λ (o : Option Block). Visited tree s (body_visits (records tree) o) k' s₂) (sym the_body)
         (record { turns = (v k' e).turns; visits = omega (arith, visits_stay same, (v k' e).visits) }))
 
-    module _ {sc : Scope} (d : a ≡ Parameters.Done sc) {k₁ : Counters} {l₁ : List ℕ} (v : VarsAdd (function_of tree text f).params k l k₁ l₁) where
+    module _ {sc : Scope} (d : a ≡ Ok sc) {k₁ : Counters} {l₁ : List ℕ} (v : VarsAdd (function_of tree text f).params k l k₁ l₁) where
       abbrev inner : Converter
       inner = record { scope = sc; counters = k₁; operands = 0; turn = 0 }
 

@@ -2,7 +2,7 @@
 -- Each is the definition, its tests replaced by what the callees ensure. Assumes nothing.
 use mathlib.Core.Path.{◌≡◌, refl, sym, ap, ◌∙◌}
 use mathlib.Core.Logic.{◌⊎◌, inl, inr}
-use mathlib.Core.Bool.{Bool, true, false}
+use mathlib.Core.Bool.{Bool, true, false, false≢true}
 use mathlib.Core.List.{List, [], ◌∷◌, ◌++◌}
 use mathlib.Core.Option.{Option, none as nothing, some}
 use Prim.Native.Nat.{ℕ, ◌+◌, ◌*◌, ◌%◌, ◌≤◌, ◌<◌}
@@ -24,16 +24,14 @@ use Rattle.conversion.specs.ConvertError.{ok, err, SameSignature, SameSymbol, La
 use Rattle.conversion.specs.Ir.{same_text}
 use Rattle.conversion.specs.Expressions.{is_mangled, get_function, main_name}
 use Rattle.conversion.specs.Functions.{is_ascii, add_function, find_main, returns_int, main_checked, check_main}
-use Rattle.records.specs.declared.words.Found.{Found}
 use Rattle.keys.specs.declared.parts.Part.{Part}
-use Rattle.expressions.specs.declared.answers.Outcome.{Outcome}
-use Rattle.functions.specs.declared.functions.AllFunctions.TheVariants as AllFunctions
+use Rattle.std.specs.Prelude.{Option as StdOption, Some, None, is_some, Ok, Err}
 use Rattle.syntax.specs.Places.{TypeAt, FunctionAt, function_of}
 use Rattle.keys.specs.Parts.{PartIs}
 use Rattle.keys.specs.Keys.{function_key, keys_below, function_places, Listed, KeySlots, key_entered, function_found}
 use Rattle.texts.specs.Texts.{original_at, text_digest_at, Numbered}
 use Rattle.functions.specs.Functions.{TurnMeets, listed_in, ListKeeps, AllMeet, done, refused}
-use Rattle.expressions.specs.Answers.{refusal, outcome_of, done_with}
+use Rattle.expressions.specs.Answers.{Answer, refusal, outcome_of, done_with}
 use Rattle.syntax.proofs.Records.{function_rec, function-return, return-is}
 use Rattle.functions.proofs.Listing.{listed-length, are-listed, listed-behind, still_numbered}
 use Rattle.texts.proofs.TextLaws.{numbered-stays}
@@ -45,33 +43,41 @@ use Rattle.keys.proofs.KeyLaws.{key_mangled, key_plain, keys_none, keys-more, ke
 
 -- ---- what a search answered
 
-module _ (tree text : List ℕ) (o : Found) (m : Option Function) (e : function_found tree text o ≡ m) where
-  pub found_at : (g : ℕ) → o ≡ Found.At g → m ≡ some (function_of tree text g)
+module _ (tree text : List ℕ) (o : StdOption ℕ) (m : Option Function) (e : function_found tree text o ≡ m) where
+  pub found_at : (g : ℕ) → o ≡ Some g → m ≡ some (function_of tree text g)
   unfolding function_found
   found_at g q = sym e ∙ ap (function_found tree text) q
 
-  pub found_nothing : o ≡ Found.Nothing → m ≡ nothing
+  pub found_nothing : o ≡ None → m ≡ nothing
   unfolding function_found
   found_nothing q = sym e ∙ ap (function_found tree text) q
+
+found_there : (o : StdOption ℕ) → is_some o ≡ true → (g : ℕ) × (o ≡ Some g)
+found_there (Some g) t = (g, refl)
+found_there None t = absurd (false≢true t)
+
+found_nowhere : (o : StdOption ℕ) → is_some o ≡ false → o ≡ None
+found_nowhere (Some g) t = absurd (false≢true (sym t))
+found_nowhere None t = refl
 
 -- ---- a turn of `get_all_functions`
 
 module _ (tree text s : List ℕ) (j f : ℕ) (good : Good tree text) (l : Listed tree s) (h : j < length (function_places tree))
     (is : (f ≡ word_at s (4 * j)) × FunctionAt tree f) where
   -- what the turn owes of its answer
-  abbrev Owed : Outcome → Type 0
+  abbrev Owed : Answer (Unit {0}) → Type 0
   Owed r = TurnMeets tree text s j r
 
   start : add_function (function_of tree text (word_at s (4 * j))) (keys_below tree text j) ≡ add_function (function_of tree text f) (keys_below tree text j)
   start = ap (λ (x : ℕ). add_function (function_of tree text x) (keys_below tree text j)) (sym is.0)
 
-  turned_away : (k : ConvertErrorKind) (r : Outcome) → add_function (function_of tree text f) (keys_below tree text j) ≡ err k (function_of tree text f).rec_of
-      → r ≡ Outcome.Refused (record { kind = k; place = f }) → Owed r
+  turned_away : (k : ConvertErrorKind) (r : Answer (Unit {0})) → add_function (function_of tree text f) (keys_below tree text j) ≡ err k (function_of tree text f).rec_of
+      → r ≡ Err (record { kind = k; place = f }) → Owed r
   unfolding done_with refusal
   turned_away k r e q = start ∙ e ∙ rw (function_rec tree text good f is.1, q)
 
   taken_in : add_function (function_of tree text f) (keys_below tree text j) ≡ ok (keys_below tree text j ++ ((function_key (function_of tree text f), function_of tree text f) ∷ []))
-      → Owed Outcome.Done
+      → Owed (Ok tt)
   unfolding done_with
   taken_in e =
       let p : get_or (function_places tree) j 0 ≡ f = sym (is.0 ∙ l.listed j h) in
@@ -85,47 +91,49 @@ module _ (tree text s : List ℕ) (j f : ℕ) (good : Good tree text) (l : Liste
     ascii : (b : Bool) → a ≡ b → is_ascii (function_of tree text f).name ≡ b
     ascii b q = ap is_ascii (sym named.is) ∙ sym ea ∙ q
 
-    pub is_latin : m ≡ true → a ≡ true → (r : Outcome) → r ≡ Outcome.Refused (record { kind = LatinCharInNonLibCFunction; place = f }) → Owed r
+    pub is_latin : m ≡ true → a ≡ true → (r : Answer (Unit {0})) → r ≡ Err (record { kind = LatinCharInNonLibCFunction; place = f }) → Owed r
     is_latin q w r e = turned_away LatinCharInNonLibCFunction r (turn_latin (function_of tree text f) (keys_below tree text j) (mangled true q) (ascii true w)) e
 
-    pub is_foreign : m ≡ false → a ≡ false → (r : Outcome) → r ≡ Outcome.Refused (record { kind = ExternNotLatin; place = f }) → Owed r
+    pub is_foreign : m ≡ false → a ≡ false → (r : Answer (Unit {0})) → r ≡ Err (record { kind = ExternNotLatin; place = f }) → Owed r
     is_foreign q w r e = turned_away ExternNotLatin r (turn_foreign (function_of tree text f) (keys_below tree text j) (mangled false q) (ascii false w)) e
 
     -- the function that is entered with its key
-    module _ (o : Found) (eo : function_found tree text o ≡ get_function (function_key (function_of tree text f)) (keys_below tree text j)) where
+    module _ (o : StdOption ℕ) (eo : function_found tree text o ≡ get_function (function_key (function_of tree text f)) (keys_below tree text j)) where
       -- by its mangled name
       long-is : m ≡ true → function_found tree text o ≡ get_function (function_of tree text f).mangled_name (keys_below tree text j)
       long-is q = eo ∙ ap (λ (t : Text). get_function t (keys_below tree text j)) (key_mangled (function_of tree text f) (mangled true q))
 
-      pub signature_taken : m ≡ true → a ≡ false → (g : ℕ) → o ≡ Found.At g → (r : Outcome)
-          → r ≡ Outcome.Refused (record { kind = SameSignature; place = f }) → Owed r
-      signature_taken q w g t r e =
+      pub signature_taken : m ≡ true → a ≡ false → is_some o ≡ true → (r : Answer (Unit {0}))
+          → r ≡ Err (record { kind = SameSignature; place = f }) → Owed r
+      signature_taken q w t r e =
+          let g = found_there o t in
           turned_away SameSignature r
-          (turn_signature (function_of tree text f) (keys_below tree text j) (mangled true q) (ascii false w) (function_of tree text g)
-          (found_at tree text o (get_function (function_of tree text f).mangled_name (keys_below tree text j)) (long-is q) g t)) e
+          (turn_signature (function_of tree text f) (keys_below tree text j) (mangled true q) (ascii false w) (function_of tree text g.0)
+          (found_at tree text o (get_function (function_of tree text f).mangled_name (keys_below tree text j)) (long-is q) g.0 g.1)) e
 
-      pub signature_new : m ≡ true → a ≡ false → o ≡ Found.Nothing → Owed Outcome.Done
+      pub signature_new : m ≡ true → a ≡ false → is_some o ≡ false → Owed (Ok tt)
       signature_new q w t =
           taken_in
           (turn_mangled (function_of tree text f) (keys_below tree text j) (mangled true q) (ascii false w)
-          (found_nothing tree text o (get_function (function_of tree text f).mangled_name (keys_below tree text j)) (long-is q) t))
+          (found_nothing tree text o (get_function (function_of tree text f).mangled_name (keys_below tree text j)) (long-is q) (found_nowhere o t)))
 
       -- by its name
       short-is : m ≡ false → function_found tree text o ≡ get_function (function_of tree text f).name (keys_below tree text j)
       short-is q = eo ∙ ap (λ (t : Text). get_function t (keys_below tree text j)) (key_plain (function_of tree text f) (mangled false q))
 
-      pub symbol_taken : m ≡ false → a ≡ true → (g : ℕ) → o ≡ Found.At g → (r : Outcome)
-          → r ≡ Outcome.Refused (record { kind = SameSymbol; place = f }) → Owed r
-      symbol_taken q w g t r e =
+      pub symbol_taken : m ≡ false → a ≡ true → is_some o ≡ true → (r : Answer (Unit {0}))
+          → r ≡ Err (record { kind = SameSymbol; place = f }) → Owed r
+      symbol_taken q w t r e =
+          let g = found_there o t in
           turned_away SameSymbol r
-          (turn_symbol (function_of tree text f) (keys_below tree text j) (mangled false q) (ascii true w) (function_of tree text g)
-          (found_at tree text o (get_function (function_of tree text f).name (keys_below tree text j)) (short-is q) g t)) e
+          (turn_symbol (function_of tree text f) (keys_below tree text j) (mangled false q) (ascii true w) (function_of tree text g.0)
+          (found_at tree text o (get_function (function_of tree text f).name (keys_below tree text j)) (short-is q) g.0 g.1)) e
 
-      pub symbol_new : m ≡ false → a ≡ true → o ≡ Found.Nothing → Owed Outcome.Done
+      pub symbol_new : m ≡ false → a ≡ true → is_some o ≡ false → Owed (Ok tt)
       symbol_new q w t =
           taken_in
           (turn_plain (function_of tree text f) (keys_below tree text j) (mangled false q) (ascii true w)
-          (found_nothing tree text o (get_function (function_of tree text f).name (keys_below tree text j)) (short-is q) t))
+          (found_nothing tree text o (get_function (function_of tree text f).name (keys_below tree text j)) (short-is q) (found_nowhere o t)))
 
 -- ---- `main`
 
@@ -146,29 +154,29 @@ module _ (tree text : List ℕ) (good : Good tree text) (f : ℕ) (at : Function
   returns-type n k e =
       rw (function-return tree text good f at, ne_eqb (word_of tree f D) none (λ q. n (ey ∙ q)), ← ey) (int_form tree text y k e)
 
-module _ (tree text : List ℕ) (o : Found) (needs : Bool) (e : function_found tree text o ≡ find_main (program tree text).functions) where
+module _ (tree text : List ℕ) (o : StdOption ℕ) (needs : Bool) (e : function_found tree text o ≡ find_main (program tree text).functions) where
   found : (m : Option Function) → find_main (program tree text).functions ≡ m → check_main (program tree text) needs ≡ main_checked (type_at tree text) needs m
   unfolding check_main program
   found m q = ap (λ (x : Option Function). main_checked (type_at tree text) needs x) q
 
-  module _ (g : ℕ) (q : o ≡ Found.At g) (b : Bool) (eb : b ≡ returns_int (type_at tree text) (function_of tree text g).return_type) where
-    pub main_fine : b ≡ true → check_main (program tree text) needs ≡ outcome_of Outcome.Done
+  module _ (g : ℕ) (q : o ≡ Some g) (b : Bool) (eb : b ≡ returns_int (type_at tree text) (function_of tree text g).return_type) where
+    pub main_fine : b ≡ true → check_main (program tree text) needs ≡ outcome_of (Ok tt)
     unfolding main_checked pick outcome_of
     main_fine w = found (some (function_of tree text g)) (found_at tree text o (find_main (program tree text).functions) e g q) ∙ rw (sym eb ∙ w)
 
-    pub main_other : b ≡ false → Good tree text → FunctionAt tree g → (r : Outcome) → r ≡ Outcome.Refused (record { kind = MainNotInteger; place = g })
+    pub main_other : b ≡ false → Good tree text → FunctionAt tree g → (r : Answer (Unit {0})) → r ≡ Err (record { kind = MainNotInteger; place = g })
         → check_main (program tree text) needs ≡ outcome_of r
     unfolding main_checked pick outcome_of refusal
     main_other w good at r er =
         found (some (function_of tree text g)) (found_at tree text o (find_main (program tree text).functions) e g q)
         ∙ rw (sym eb ∙ w, function_rec tree text good g at, er)
 
-  module _ (q : o ≡ Found.Nothing) where
-    pub main_missing : needs ≡ true → (r : Outcome) → r ≡ Outcome.Refused (record { kind = NoMain; place = none }) → check_main (program tree text) needs ≡ outcome_of r
+  module _ (q : o ≡ None) where
+    pub main_missing : needs ≡ true → (r : Answer (Unit {0})) → r ≡ Err (record { kind = NoMain; place = none }) → check_main (program tree text) needs ≡ outcome_of r
     unfolding main_checked pick outcome_of refusal
     main_missing w r er = found nothing (found_nothing tree text o (find_main (program tree text).functions) e q) ∙ rw (w, er)
 
-    pub main_spared : needs ≡ false → check_main (program tree text) needs ≡ outcome_of Outcome.Done
+    pub main_spared : needs ≡ false → check_main (program tree text) needs ≡ outcome_of (Ok tt)
     unfolding main_checked pick outcome_of
     main_spared w = found nothing (found_nothing tree text o (find_main (program tree text).functions) e q) ∙ rw w
 
@@ -183,14 +191,14 @@ module _ (tree text s : List ℕ) (j : ℕ) (l : Listed tree s) where
     same : (q : Bool) → b ≡ q → same_text (function_of tree text (get_or (function_places tree) j 0)).name main_name ≡ q
     same q e = rw this (ap (λ (t : Text). same_text t main_name) (sym named.is) ∙ sym eb ∙ e)
 
-    pub main_here : b ≡ true → MainLeft tree text j → function_found tree text (Found.At f) ≡ find_main (program tree text).functions
+    pub main_here : b ≡ true → MainLeft tree text j → function_found tree text (Some f) ≡ find_main (program tree text).functions
     unfolding function_found
     main_here q w = sym (main_hit tree text j h (same true q) w ∙ ap (λ (x : ℕ). some (function_of tree text x)) this)
 
     pub main_next : b ≡ false → MainLeft tree text j → MainLeft tree text (j + 1)
     main_next q w = main_more tree text j h (same false q) w
 
-  pub main_nowhere : (count : ℕ) → count ≡ length (function_places tree) → count ≤ j → MainLeft tree text j → function_found tree text Found.Nothing ≡ find_main (program tree text).functions
+  pub main_nowhere : (count : ℕ) → count ≡ length (function_places tree) → count ≤ j → MainLeft tree text j → function_found tree text None ≡ find_main (program tree text).functions
   unfolding function_found
   main_nowhere count e h w = sym (main_end tree text j (omega (arith, e)) w)
 
@@ -254,20 +262,20 @@ keeps_on : {tree s s₁ s₂ : List ℕ} → ListKeeps tree s s₁ → ListKeeps
 keeps_on a b = record { long = b.long ∙ a.long; between = λ i h k. b.between i h k ∙ a.between i h k; behind = λ i h. b.behind i h ∙ a.behind i h }
 
 module _ (tree text s₀ : List ℕ) (count : ℕ) (good : Good tree text) where
-  module _ (s : List ℕ) (j : ℕ) (w : Entered tree text s₀ s count j) (h : j < count) (o : Outcome) (e : TurnMeets tree text s j o) where
+  module _ (s : List ℕ) (j : ℕ) (w : Entered tree text s₀ s count j) (h : j < count) (o : Answer (Unit {0})) (e : TurnMeets tree text s j o) where
     inside-list : j < length (function_places tree)
     inside-list = omega (arith, w.counted)
 
     turn_is : add_function (function_of tree text (get_or (function_places tree) j 0)) (keys_below tree text j) ≡ done_with (keys_below tree text (j + 1)) o
     turn_is = rw (w.listed.listed j inside-list) at e
 
-    pub entered-refused : (t : List ℕ) → ListKeeps tree t s₀ → (x : ConvertError) → o ≡ Outcome.Refused x → AllMeet tree text t s (AllFunctions.Refused x)
+    pub entered-refused : (t : List ℕ) → ListKeeps tree t s₀ → (x : ConvertError) → o ≡ Err x → AllMeet tree text t s (Err x)
     unfolding done_with refusal
     entered-refused t first x q =
         refused (keeps_on first w.keeps) w.listed
         (left-stop tree text j x.kind x.place inside-list (turn_is ∙ ap (done_with (keys_below tree text (j + 1))) q) w.left)
 
-    module _ (q : o ≡ Outcome.Done) (f : ℕ) (is : (f ≡ word_at s (4 * j)) × FunctionAt tree f) (s' : List ℕ) (put : s' ≡ key_entered tree text f s) where
+    module _ (q : o ≡ (Ok tt)) (f : ℕ) (is : (f ≡ word_at s (4 * j)) × FunctionAt tree f) (s' : List ℕ) (put : s' ≡ key_entered tree text f s) where
       turn-done : add_function (function_of tree text (get_or (function_places tree) j 0)) (keys_below tree text j) ≡ ok (keys_below tree text (j + 1))
       unfolding done_with
       turn-done = turn_is ∙ ap (done_with (keys_below tree text (j + 1))) q
@@ -303,7 +311,7 @@ module _ (tree text s₀ : List ℕ) (count : ℕ) (good : Good tree text) where
             };
           }
 
-  pub entered-done : (t : List ℕ) → ListKeeps tree t s₀ → (s : List ℕ) (j : ℕ) → Entered tree text s₀ s count j → count ≤ j → AllMeet tree text t s (AllFunctions.Done count)
+  pub entered-done : (t : List ℕ) → ListKeeps tree t s₀ → (s : List ℕ) (j : ℕ) → Entered tree text s₀ s count j → count ≤ j → AllMeet tree text t s (Ok count)
   entered-done t first s j w h =
       let all : length (function_places tree) ≤ j = omega (arith, w.counted) in
       done (keeps_on first w.keeps) (record {

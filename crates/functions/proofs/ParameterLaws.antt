@@ -25,11 +25,10 @@ use Rattle.conversion.specs.Scope.{Variable, find_variable, with_variable}
 use Rattle.conversion.specs.Written.{bool_number}
 use Rattle.ir.specs.declared.structs.VarId.{VarId}
 use Rattle.scope.specs.declared.Scope.{Scope}
-use Rattle.scope.specs.declared.Declared.{Declared}
 use Rattle.scope.specs.Open.{variables_at, loop_number, scope_at, variable_named, NameAfforded, Added, Taken, DeclareMeets}
 use Rattle.scope.proofs.ScopeLaws.{scope-more}
-use Rattle.functions.specs.declared.parameters.Parameters.{Parameters as Answered}
-use Rattle.functions.specs.declared.parameters.Parameters.TheVariants as Answer
+use Rattle.std.specs.Prelude.{Option, Some, None, Ok, Err, ok_or}
+use Rattle.expressions.specs.Answers.{Answer}
 use Rattle.syntax.specs.Places.{TypeAt, ParamsAt, function_of, params_at}
 use Rattle.texts.specs.Texts.{has_text}
 use Rattle.keys.specs.Keys.{Keyed}
@@ -70,15 +69,15 @@ only-stays p = record {
   told = λ j h. absurd (omega (arith, h));
 }
 
-pub names-only : {tree text s s' : List ℕ} {f : ℕ} {a : Answered} → ParametersMeet tree text f s s' a → NamesOnly tree s s'
+pub names-only : {tree text s s' : List ℕ} {f : ℕ} {a : Answer Scope} → ParametersMeet tree text f s s' a → NamesOnly tree s s'
 names-only (ParametersMeet.done asked ready inner function only bytes) = only
 names-only (ParametersMeet.refused asked only bytes) = only
 
-one_only : {tree text s s' : List ℕ} {sc : Scope} {p : Param} {a : Answered} → OneMore tree text sc p s s' a → NamesOnly tree s s'
+one_only : {tree text s s' : List ℕ} {sc : Scope} {p : Param} {a : Answer Scope} → OneMore tree text sc p s s' a → NamesOnly tree s s'
 one_only (OneMore.done r is free adds only wrote) = only
 one_only {tree = tree} {s = s} (OneMore.refused e is same) = subst (NamesOnly tree s) (sym same) (only_refl tree s)
 
-pub one_more-turns : {tree text s s' : List ℕ} {sc : Scope} {p : Param} {a : Answered} → OneMore tree text sc p s s' a → TurnsStay tree s s'
+pub one_more-turns : {tree text s s' : List ℕ} {sc : Scope} {p : Param} {a : Answer Scope} → OneMore tree text sc p s s' a → TurnsStay tree s s'
 one_more-turns m = only-turns (one_only m)
 
 -- one more behind the others
@@ -139,7 +138,7 @@ module _ (tree text s : List ℕ) (sc : Scope) (ready : Ready tree text s sc) (c
     module _ (s' : List ℕ) where
       pub name-taken : (e : ConvertError) → e ≡ record { kind = AlreadyDeclared; place = item }
           → Taken text (original_of tree s item) (original_word tree s item A) (original_word tree s item B) v false sc s s'
-          → OneMore tree text sc parameter s s' (Answer.Refused e)
+          → OneMore tree text sc parameter s s' (Err e)
       unfolding is_some some_and find_variable scope_at
       name-taken e q t = OneMore.refused q (rw (← name_is_lem, t.found) refl) t.same
 
@@ -159,7 +158,7 @@ module _ (tree text s : List ℕ) (sc : Scope) (ready : Ready tree text s sc) (c
               behind = λ i h. byte i (inr (omega (arith, are, few))) (inr (omega (arith, are, inside)));
             }
 
-        pub one_more : OneMore tree text sc parameter s s' (Answer.Done sc')
+        pub one_more : OneMore tree text sc parameter s s' (Ok sc')
         unfolding is_some some_and find_variable scope_at
         one_more =
             OneMore.done (added-ready item-asked is_afforded m (subst (TypeAt tree) (sym e₁) the_type) ready) m.scope (rw (← name_is_lem, m.free) refl)
@@ -185,22 +184,16 @@ module _ (tree text s : List ℕ) (sc : Scope) (ready : Ready tree text s sc) (c
       pub met_room : NameAfforded sc v
       met_room = is_afforded v e₀ type_of-item
 
-      module _ (s' : List ℕ) (r : Declared) (m : DeclareMeets text (original_of tree s p) (original_word tree s p A) (original_word tree s p B) v false sc s s' r) where
-        met_as : (x : Declared) → r ≡ x → DeclareMeets text (original_of tree s item) (original_word tree s item A) (original_word tree s item B) v false sc s s' x
-        met_as x q =
-            subst (λ (i : ℕ). DeclareMeets text (original_of tree s i) (original_word tree s i A) (original_word tree s i B) v false sc s s' x) ep
-            (subst (DeclareMeets text (original_of tree s p) (original_word tree s p A) (original_word tree s p B) v false sc s s') q m)
+      module _ (s' : List ℕ) where
+        met_as : (r : Option Scope) → DeclareMeets text (original_of tree s p) (original_word tree s p A) (original_word tree s p B) v false sc s s' r
+            → DeclareMeets text (original_of tree s item) (original_word tree s item A) (original_word tree s item B) v false sc s s' r
+        met_as r m = subst (λ (i : ℕ). DeclareMeets text (original_of tree s i) (original_word tree s i A) (original_word tree s i B) v false sc s s' r) ep m
 
-        pub met_done : (sc' : Scope) → r ≡ Declared.Done sc' → OneMore tree text sc parameter s s' (Answer.Done sc')
+        pub met : (r : Option Scope) → DeclareMeets text (original_of tree s p) (original_word tree s p A) (original_word tree s p B) v false sc s s' r
+            → OneMore tree text sc parameter s s' (ok_or r (record { kind = AlreadyDeclared; place = p }))
         unfolding DeclareMeets
-        met_done sc' q = one_more v e₀ type_of-item s' sc' (met_as (Declared.Done sc') q)
-
-        pub met_taken : r ≡ Declared.Taken → (a : Answered) → a ≡ Answer.Refused (record { kind = AlreadyDeclared; place = p })
-            → OneMore tree text sc parameter s s' a
-        unfolding DeclareMeets
-        met_taken q a ea =
-            subst (OneMore tree text sc parameter s s') (sym ea)
-            (name-taken v e₀ type_of-item s' (record { kind = AlreadyDeclared; place = p }) (rw ep refl) (met_as Declared.Taken q))
+        met (Some sc') m = one_more v e₀ type_of-item s' sc' (met_as (Some sc') m)
+        met None m = name-taken v e₀ type_of-item s' (record { kind = AlreadyDeclared; place = p }) (rw ep refl) (met_as None m)
 
 -- ---- the loop
 
@@ -252,7 +245,7 @@ module _ (tree text : List ℕ) (f : ℕ) (s₀ : List ℕ) where
       empty = refl
 
   module _ (s : List ℕ) (cell : ℕ) (sc : Scope) (t : Turn tree text f s₀ s cell sc) where
-    pub turn_end : cell ≡ Words.none → ParametersMeet tree text f s₀ s (Answer.Done sc)
+    pub turn_end : cell ≡ Words.none → ParametersMeet tree text f s₀ s (Ok sc)
     unfolding with_params
     turn_end e =
         ParametersMeet.done {sc = sc} (t.asked ∙ rw (e, params_end tree text t.ready.keyed.good) refl) t.ready t.no_loop t.of_function t.only
@@ -271,8 +264,8 @@ module _ (tree text : List ℕ) (f : ℕ) (s₀ : List ℕ) where
       split : params_at tree text cell ≡ here ∷ params_at tree text (word_of tree cell B)
       split = parameter_item tree text t.ready.keyed.good cell (cell-is tree text t.ready.keyed.good Parameters cell t.cells n)
 
-      pub turn-refused : (s' : List ℕ) (e : ConvertError) → OneMore tree text sc here s s' (Answer.Refused e)
-          → ParametersMeet tree text f s₀ s' (Answer.Refused e) × (length s' ≡ length s₀)
+      pub turn-refused : (s' : List ℕ) (e : ConvertError) → OneMore tree text sc here s s' (Err e)
+          → ParametersMeet tree text f s₀ s' (Err e) × (length s' ≡ length s₀)
       unfolding with_params until_taken pick refusal
       turn-refused s' e (OneMore.refused q taken k) = (
         ParametersMeet.refused {e = e} (t.asked ∙ rw (split, taken, q) refl) (subst (NamesOnly tree s₀) (sym k) t.only)
@@ -283,7 +276,7 @@ module _ (tree text : List ℕ) (f : ℕ) (s₀ : List ℕ) where
           those : until_taken (function_of tree text f).params 0 (empty_in tree text f) ≡ t.before
           those = t.declared ∙ rw (split, taken) (append-nil t.before)
 
-      pub turn-next : (s' : List ℕ) (sc' : Scope) (w : ℕ) → w ≡ word_of tree cell B → OneMore tree text sc here s s' (Answer.Done sc')
+      pub turn-next : (s' : List ℕ) (sc' : Scope) (w : ℕ) → w ≡ word_of tree cell B → OneMore tree text sc here s s' (Ok sc')
           → Turn tree text f s₀ s' w sc'
       unfolding with_params until_taken pick with_variable
       turn-next s' sc' w e (OneMore.done r is free adds only wrote) = record {

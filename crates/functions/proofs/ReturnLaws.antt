@@ -82,9 +82,6 @@ list-low w m (inr h) = go (eqb w none)
     go false = omega (arith, h)
 
 module _ {tree text : List ℕ} (good : Good tree text) {r : ℕ} (x : IsStatement tree r) where
-  pub statement_inside : r * 32 + 32 ≤ length tree
-  statement_inside = inside tree text good r x.below
-
   module _ {k : ℕ} (ek : k ≡ kind_of tree r) where
     pub a-return : k ≡ 17 → true ≡ statement_returns (statement_at tree text r)
     unfolding statement_returns

@@ -1,5 +1,5 @@
 -- What `get_all_functions` owes: its list of the functions' records in scratch, and the keys. Assumes nothing: these are definitions.
-use Rattle.std.specs.Prelude.{◌≡◌, ℕ, ◌+◌, ◌*◌, ◌≤◌, ◌<◌, List, [], ◌∷◌, ◌++◌, length, get_or}
+use Rattle.std.specs.Prelude.{◌≡◌, ℕ, ◌+◌, ◌*◌, ◌≤◌, ◌<◌, List, [], ◌∷◌, ◌++◌, length, get_or, Ok, Err}
 use Rattle.laws.specs.Splice.{splice}
 use Rattle.records.specs.declared.convert_error.ConvertError.{ConvertError}
 use Rattle.records.specs.Layout.{end_of, judging, key_slots}
@@ -9,9 +9,7 @@ use Rattle.syntax.specs.Places.{function_of}
 use Rattle.conversion.specs.Functions.{add_function, get_all_functions}
 use Rattle.conversion.specs.Written.{word}
 use Rattle.keys.specs.Keys.{records_below, function_places, keys_below, Listed, Mapped}
-use Rattle.expressions.specs.declared.answers.Outcome.{Outcome}
-use Rattle.expressions.specs.Answers.{refusal, done_with}
-use Rattle.functions.specs.declared.functions.AllFunctions.{AllFunctions}
+use Rattle.expressions.specs.Answers.{Answer, refusal, done_with}
 
 -- one word after the other
 unfoldable pub words : List ℕ → List ℕ
@@ -25,7 +23,7 @@ unfolding splice words records_below
 listed_in tree s = splice s 0 (words (function_places tree))
 
 -- one turn of `get_all_functions`: the j-th listed function is added to those before it, or refused
-abbrev pub TurnMeets : List ℕ → List ℕ → List ℕ → ℕ → Outcome → Type 0
+abbrev pub TurnMeets : List ℕ → List ℕ → List ℕ → ℕ → Answer (Unit {0}) → Type 0
 TurnMeets tree text s j r =
     add_function (function_of tree text (word_at s (judging.each * j))) (keys_below tree text j) ≡ done_with (keys_below tree text (j + 1)) r
 
@@ -36,7 +34,7 @@ pub record ListKeeps (tree s s' : List ℕ) : Type 0 where
   pub behind : (i : ℕ) → end_of key_slots * records tree ≤ i → get_or s' i 0 ≡ get_or s i 0
 
 -- `get_all_functions`: the functions' records are listed, and their keys are distinct or the first function that is not fine is refused
-pub data AllMeet (tree text s s' : List ℕ) : AllFunctions → Type 0 where
-  done : {count : ℕ} → ListKeeps tree s s' → Mapped tree text s' → count ≡ length (function_places tree) → AllMeet tree text s s' (AllFunctions.Done count)
+pub data AllMeet (tree text s s' : List ℕ) : Answer ℕ → Type 0 where
+  done : {count : ℕ} → ListKeeps tree s s' → Mapped tree text s' → count ≡ length (function_places tree) → AllMeet tree text s s' (Ok count)
   refused : {e : ConvertError} → ListKeeps tree s s' → Listed tree s' → get_all_functions (program tree text).functions [] ≡ refusal e
-      → AllMeet tree text s s' (AllFunctions.Refused e)
+      → AllMeet tree text s s' (Err e)

@@ -15,14 +15,14 @@ ghost use Rattle.statements.specs.Lent.{at, finished_with};
 ghost use Rattle.statements.specs.Turns.{Turns, BlockVisited};
 ghost use Rattle.functions.specs.Bodies.{ParametersAdd, misses_return, FunctionsAfforded, BodyAs, ConvertsFunction, FunctionVisited};
 
-use crate::parameters::{Parameters, declare_parameters};
+use crate::parameters::declare_parameters;
 use crate::returns::always_returns;
 use expressions::arguments::{END, next_cell};
 use ir::lent::{add_function, new_var};
 use keys::keys::parameters_of;
 use records::convert_error::{ConvertError, ConvertErrorKind};
 use records::words::{NONE, WORD_A, WORD_C, WORD_D, WORD_E, detail, reference, word};
-use statements::answers::{Converter, Finished};
+use statements::answers::Converter;
 use statements::blocks::convert_block;
 
 // A function's detail has 4 where it has a body.
@@ -66,7 +66,7 @@ fn convert_body(
     k: &mut [usize],
     c: Converter,
     f: usize,
-) -> Finished
+) -> Result<(), ConvertError>
     requires converting { Converting tree.now text.now arena.old scratch.old (at c k.old) × BlockAfforded tree.now text.now (at c k.old) (word_of tree.now f Words.E) }
     requires function_at { FunctionAt tree.now f × ((counted k.old).functions < (counted k.old).records) }
     requires turns { Turns tree.now scratch.old (counted k.old) }
@@ -74,19 +74,15 @@ fn convert_body(
     ensures visits { BlockVisited (word_of tree.now f Words.E) tree.now text.now scratch.old (finished_with k.new result) scratch.new }
 {
     let body = reference(tree, f, WORD_E);
-    match convert_block(tree, text, arena, scratch, k, c, body) {
-        Finished::Refused(x) => Finished::Refused(x),
-        Finished::Done => {
-            if misses_return(tree, text, f) {
-                return Finished::Refused(ConvertError {
-                    kind: ConvertErrorKind::MissingReturn,
-                    place: f as u32,
-                });
-            }
-            add_function(arena, k, f as u32, true);
-            Finished::Done
-        }
+    convert_block(tree, text, arena, scratch, k, c, body)?;
+    if misses_return(tree, text, f) {
+        return Err(ConvertError {
+            kind: ConvertErrorKind::MissingReturn,
+            place: f as u32,
+        });
     }
+    add_function(arena, k, f as u32, true);
+    Ok(())
 }
 
 // The function f; one without a body has an entry alone.
@@ -97,7 +93,7 @@ pub fn convert_func(
     scratch: &mut [u8],
     k: &mut [usize],
     f: usize,
-) -> Finished
+) -> Result<(), ConvertError>
     requires keyed { Keyed tree.now text.now scratch.old × FunctionAt tree.now f }
     requires room { Room (counted k.old) arena.old × ((counted k.old).records ≡ records tree.now) × FunctionsAfforded (counted k.old) (function_records (function_of tree.now text.now f)) }
     requires turns { Turns tree.now scratch.old (counted k.old) }
@@ -106,18 +102,14 @@ pub fn convert_func(
 {
     if !has_body(tree, text, f) {
         add_function(arena, k, f as u32, false);
-        return Finished::Done;
+        return Ok(());
     }
-    match declare_parameters(tree, text, scratch, f) {
-        Parameters::Refused(x) => Finished::Refused(x),
-        Parameters::Done(scope) => {
-            parameter_variables(tree, text, arena, k, f);
-            let c = Converter {
-                scope,
-                operands: 0,
-                turn: 0,
-            };
-            convert_body(tree, text, arena, scratch, k, c, f)
-        }
-    }
+    let scope = declare_parameters(tree, text, scratch, f)?;
+    parameter_variables(tree, text, arena, k, f);
+    let c = Converter {
+        scope,
+        operands: 0,
+        turn: 0,
+    };
+    convert_body(tree, text, arena, scratch, k, c, f)
 }

@@ -12,26 +12,18 @@ ghost use Rattle.keys.specs.Keys.{Listed, function_places, keys_below, KeySlots,
 ghost use Rattle.functions.specs.Functions.{listed_in, TurnMeets, AllMeet};
 ghost use Rattle.expressions.specs.Answers.{outcome_of};
 
-use expressions::answers::Outcome;
 use keys::keys::{clear_keys, enter_key, find_own_key, function_at, is_mangled, name_of};
 use keys::parts::{is_ascii, is_main};
 use records::convert_error::{ConvertError, ConvertErrorKind};
 use records::layout::LISTED_BYTES;
 use records::numbers::{FORM_INT, KIND_FUNCTION};
-use records::words::{Found, NONE, RECORD_BYTES, WORD_D, kind, put_word, reference};
+use records::words::{NONE, RECORD_BYTES, WORD_D, kind, put_word, reference};
 use types::form::form;
 
-// How many functions there are.
-#[derive(Clone, Copy)]
-pub enum AllFunctions {
-    Done(usize),
-    Refused(ConvertError),
-}
-
-fn refuse_function(kind: ConvertErrorKind, place: u32) -> Outcome
-    ensures { result ≡ Outcome.Refused (record { kind = kind; place = place }) }
+fn refuse_function(kind: ConvertErrorKind, place: u32) -> Result<(), ConvertError>
+    ensures { result ≡ Err (record { kind = kind; place = place }) }
 {
-    Outcome::Refused(ConvertError { kind, place })
+    Err(ConvertError { kind, place })
 }
 
 // Lists the functions' records in scratch, and says how many there are.
@@ -40,21 +32,18 @@ fn list_functions(tree: &[u8], scratch: &mut [u8]) -> usize
     requires tree_in_bounds { scratch_each * records tree.now ≤ length scratch.old }
     ensures { (scratch.new ≡ listed_in tree.now scratch.old) × (result ≡ length (function_places tree.now)) }
 {
-    let n = tree.len() / RECORD_BYTES;
-    let mut r = 0;
     let mut count = 0;
-    while r < n {
+    for r in 0..tree.len() / RECORD_BYTES {
         if kind(tree, r) == KIND_FUNCTION {
             put_word(scratch, LISTED_BYTES * count, r as u32);
             count += 1;
         }
-        r += 1;
     }
     count
 }
 
 // One turn of get_all_functions: the j-th function against those before it, which are entered by their keys.
-fn check_function(tree: &[u8], text: &[u8], scratch: &[u8], j: usize) -> Outcome
+fn check_function(tree: &[u8], text: &[u8], scratch: &[u8], j: usize) -> Result<(), ConvertError>
     requires good { Good tree.now text.now × Numbered tree.now text.now scratch.now }
     requires listed { Listed tree.now scratch.now }
     requires j_in_bounds { (j < length (function_places tree.now)) × KeySlots tree.now text.now scratch.now (keys_below tree.now text.now j) }
@@ -66,57 +55,54 @@ fn check_function(tree: &[u8], text: &[u8], scratch: &[u8], j: usize) -> Outcome
         if is_ascii(text, name) {
             return refuse_function(ConvertErrorKind::LatinCharInNonLibCFunction, f as u32);
         }
-        if let Found::At(_) = find_own_key(tree, text, scratch, f) {
+        if find_own_key(tree, text, scratch, f).is_some() {
             return refuse_function(ConvertErrorKind::SameSignature, f as u32);
         }
-        return Outcome::Done;
+        return Ok(());
     }
     if !is_ascii(text, name) {
         return refuse_function(ConvertErrorKind::ExternNotLatin, f as u32);
     }
-    if let Found::At(_) = find_own_key(tree, text, scratch, f) {
+    if find_own_key(tree, text, scratch, f).is_some() {
         return refuse_function(ConvertErrorKind::SameSymbol, f as u32);
     }
-    Outcome::Done
+    Ok(())
 }
 
 // Lists the functions' records in scratch, enters each by its key and says how many there are, or refuses the first function whose key is taken or whose name has the
 // wrong letters.
-pub fn get_all_functions(tree: &[u8], text: &[u8], scratch: &mut [u8]) -> AllFunctions
+pub fn get_all_functions(
+    tree: &[u8],
+    text: &[u8],
+    scratch: &mut [u8],
+) -> Result<usize, ConvertError>
     requires good { Good tree.now text.now × Numbered tree.now text.now scratch.old }
     requires tree_in_bounds { scratch_each * records tree.now ≤ length scratch.old }
     ensures { AllMeet tree.now text.now scratch.old scratch.new result }
 {
     let count = list_functions(tree, scratch);
     clear_keys(scratch, tree.len() / RECORD_BYTES);
-    let mut j = 0;
-    while j < count {
-        match check_function(tree, text, scratch, j) {
-            Outcome::Refused(e) => return AllFunctions::Refused(e),
-            Outcome::Done => {}
-        }
+    for j in 0..count {
+        check_function(tree, text, scratch, j)?;
         let added = function_at(tree, scratch, j);
         enter_key(tree, text, scratch, added);
-        j += 1;
     }
-    AllFunctions::Done(count)
+    Ok(count)
 }
 
 // The first function named `main`.
-fn find_main(tree: &[u8], text: &[u8], scratch: &[u8], count: usize) -> Found
+fn find_main(tree: &[u8], text: &[u8], scratch: &[u8], count: usize) -> Option<usize>
     requires good { Good tree.now text.now }
     requires listed { Listed tree.now scratch.now × (count ≡ length (function_places tree.now)) }
     ensures { FunctionIs tree.now text.now result (find_main (program tree.now text.now).functions) }
 {
-    let mut j = 0;
-    while j < count {
+    for j in 0..count {
         let f = function_at(tree, scratch, j);
         if is_main(text, name_of(tree, text, f)) {
-            return Found::At(f);
+            return Some(f);
         }
-        j += 1;
     }
-    Found::Nothing
+    None
 }
 
 fn returns_int(tree: &[u8], text: &[u8], f: usize) -> bool
@@ -138,23 +124,23 @@ pub fn check_main(
     scratch: &[u8],
     count: usize,
     needs_main: bool,
-) -> Outcome
+) -> Result<(), ConvertError>
     requires good { Good tree.now text.now }
     requires listed { Listed tree.now scratch.now × (count ≡ length (function_places tree.now)) }
     ensures { check_main (program tree.now text.now) needs_main ≡ outcome_of result }
 {
     match find_main(tree, text, scratch, count) {
-        Found::At(f) => {
+        Some(f) => {
             if returns_int(tree, text, f) {
-                return Outcome::Done;
+                return Ok(());
             }
             refuse_function(ConvertErrorKind::MainNotInteger, f as u32)
         }
-        Found::Nothing => {
+        None => {
             if needs_main {
                 return refuse_function(ConvertErrorKind::NoMain, NONE);
             }
-            Outcome::Done
+            Ok(())
         }
     }
 }

@@ -4,7 +4,6 @@ ghost use Rattle.records.specs.Words.{records, none};
 ghost use Rattle.syntax.specs.Places.{FunctionAt, ParamsAt};
 ghost use Rattle.keys.specs.Keys.{Keyed};
 ghost use Rattle.expressions.specs.Slots.{Ready};
-ghost use Rattle.conversion.specs.ConvertError.{AlreadyDeclared};
 ghost use Rattle.functions.specs.Parameters.{parameter_in, OneMore, ParametersMeet};
 ghost use Rattle.statements.specs.Turns.{TurnsStay};
 
@@ -14,33 +13,16 @@ use ir::structs::VarId;
 use keys::keys::parameters_of;
 use records::convert_error::{ConvertError, ConvertErrorKind};
 use records::words::{NONE, RECORD_BYTES, WORD_A, WORD_C, reference, word};
-use scope::{Declared, Scope};
+use scope::Scope;
 
-// The scope with the parameters, or AlreadyDeclared at the one whose name is taken.
-#[derive(Clone, Copy)]
-pub enum Parameters {
-    Done(Scope),
-    Refused(ConvertError),
-}
-
-fn taken(place: usize) -> Parameters
-    requires { place < 4294967296 }
-    ensures { result ≡ Parameters.Refused (record { kind = AlreadyDeclared; place = place }) }
-{
-    Parameters::Refused(ConvertError {
-        kind: ConvertErrorKind::AlreadyDeclared,
-        place: place as u32,
-    })
-}
-
-// The scope with the parameter of one cell more; its variable's number is how many stood before. There is room: each parameter has a record.
+// The scope with the parameter of one cell more, or AlreadyDeclared where its name is taken; its variable's number is how many stood before. There is room: each parameter has a record.
 fn declare_parameter(
     tree: &[u8],
     text: &[u8],
     scratch: &mut [u8],
     scope: Scope,
     cell: usize,
-) -> Parameters
+) -> Result<Scope, ConvertError>
     requires ready { Ready tree.now text.now scratch.old scope }
     requires params_at { ParamsAt tree.now cell }
     requires fact { (cell ≡ none → ⊥) × (scope.names + cell < records tree.now) }
@@ -49,14 +31,19 @@ fn declare_parameter(
 {
     let p = reference(tree, cell, WORD_A);
     let v = VarId(scope.names as u32, word(tree, p, WORD_C));
-    match declare_name(tree, text, scratch, scope, p, v, false) {
-        Declared::Done(next) => Parameters::Done(next),
-        Declared::Taken => taken(p),
-    }
+    declare_name(tree, text, scratch, scope, p, v, false).ok_or(ConvertError {
+        kind: ConvertErrorKind::AlreadyDeclared,
+        place: p as u32,
+    })
 }
 
-// The scope with which the body of function f begins: its parameters, numbered from 0.
-pub fn declare_parameters(tree: &[u8], text: &[u8], scratch: &mut [u8], f: usize) -> Parameters
+// The scope with which the body of function f begins: its parameters, numbered from 0; or AlreadyDeclared at the first whose name is taken.
+pub fn declare_parameters(
+    tree: &[u8],
+    text: &[u8],
+    scratch: &mut [u8],
+    f: usize,
+) -> Result<Scope, ConvertError>
     requires keyed { Keyed tree.now text.now scratch.old }
     requires function_at { FunctionAt tree.now f }
     ensures parameters_meet { ParametersMeet tree.now text.now f scratch.old scratch.new result }
@@ -70,11 +57,8 @@ pub fn declare_parameters(tree: &[u8], text: &[u8], scratch: &mut [u8], f: usize
         function: f as u32,
     };
     while cell != END {
-        match declare_parameter(tree, text, scratch, scope, cell) {
-            Parameters::Refused(e) => return Parameters::Refused(e),
-            Parameters::Done(next) => scope = next,
-        }
+        scope = declare_parameter(tree, text, scratch, scope, cell)?;
         cell = next_cell(tree, cell);
     }
-    Parameters::Done(scope)
+    Ok(scope)
 }

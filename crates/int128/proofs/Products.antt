@@ -4,7 +4,7 @@ use mathlib.Core.Path.{◌≡◌, sym, ap, ◌∙◌, subst}
 use Prim.Native.Nat.{ℕ, ◌+◌, ◌*◌, ◌^◌, ◌≤◌}
 use native.Mathlib.Nat.{le_trans, le_of_eq, mul-le-mul_left, mul-le-mul_right, mul_comm, le-add_right, zero-mul, zero-add, add_comm}
 use Rattle.int128.specs.declared.Int128.{Int128}
-use Rattle.int128.specs.declared.product.Product.{Product}
+use Rattle.std.specs.Prelude.{Option}
 use Rattle.int128.specs.Value.{bits_of}
 use Rattle.int128.specs.Magnitude.{IsProduct}
 use Rattle.int128.proofs.Halves.{above, no_upper, positive}
@@ -25,10 +25,10 @@ module _ (W xh xl w : ℕ) (lh ll hh hl : ℕ) (e : lh * W + ll ≡ xl * w) (f :
   word-high n = le_trans (above (W * W) 1 {hi = hh} ((hl + lh) * W + ll) (positive hh n)) (le_of_eq (sym whole))
 
 -- a magnitude with an upper half of 0 is its lower half
-pub one_word : (a b : Int128) (r : Product) → a.hi ≡ 0 → IsProduct (bits_of b * a.lo) r → IsProduct (bits_of a * bits_of b) r
+pub one_word : (a b : Int128) (r : Option Int128) → a.hi ≡ 0 → IsProduct (bits_of b * a.lo) r → IsProduct (bits_of a * bits_of b) r
 one_word a b r e h = subst (λ (n : ℕ). IsProduct n r) (mul_comm (bits_of b) a.lo ∙ ap (λ (n : ℕ). n * bits_of b) (sym (ap (λ (n : ℕ). n * 2 ^ 64 + a.lo) e ∙ no_upper a.lo))) h
 
-pub other_word : (a b : Int128) (r : Product) → b.hi ≡ 0 → IsProduct (bits_of a * b.lo) r → IsProduct (bits_of a * bits_of b) r
+pub other_word : (a b : Int128) (r : Option Int128) → b.hi ≡ 0 → IsProduct (bits_of a * b.lo) r → IsProduct (bits_of a * bits_of b) r
 other_word a b r e h = subst (λ (n : ℕ). IsProduct n r) (mul_comm (bits_of b) (bits_of a)) (one_word b a r e h)
 
 pub both_long : (a b : Int128) → (a.hi ≡ 0 → ⊥) → (b.hi ≡ 0 → ⊥) → 2 ^ 128 ≤ bits_of a * bits_of b

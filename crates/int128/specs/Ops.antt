@@ -1,7 +1,8 @@
 -- What each operation of `i128` answers, as the Rust library documents it, over whole numbers: `checked_add` "returning None if overflow
 -- occurred", `checked_div` and `checked_rem` "returning None if rhs == 0 or the division results in overflow", `checked_shl` and
 -- `checked_shr` "returning None if rhs is larger than or equal to the number of bits".
-use Rattle.std.specs.Prelude.{ℕ, ◌-◌, ◌*◌, ◌%◌, ◌^◌, Bool, true, false, cond, ◌&&◌, ltb, eqb, ℤ, pos, negsuc, neg_ℤ, nat_abs, ◌+ℤ◌, ◌-ℤ◌, ◌*ℤ◌}
+use Rattle.std.specs.Prelude as Std
+use Rattle.std.specs.Prelude.{ℕ, Some, None, ◌≡◌, ◌≤◌, ◌-◌, ◌*◌, ◌%◌, ◌^◌, Bool, true, false, cond, ◌&&◌, ltb, eqb, ℤ, pos, negsuc, neg_ℤ, nat_abs, ◌+ℤ◌, ◌-ℤ◌, ◌*ℤ◌}
 use Rattle.std.proofs.Math.Option.{Option, none, some, map}
 use Rattle.std.specs.Int.Signed.{le_z, lt_z, quot_z, rem_z, shr_z}
 use Rattle.std.specs.Int.Bits.{bit_and, bit_or, bit_xor}
@@ -77,6 +78,15 @@ shr_of a n = cond (ltb n 128) (some (shr_z a (2 ^ n))) none
 abbrev pub by_count : (ℕ → Option ℤ) → ℤ → Option ℤ
 by_count f (pos n) = f n
 by_count f (negsuc n) = none
+
+-- the same by a short count that may be missing
+abbrev pub at_count : (ℕ → Option ℤ) → Std.Option ℕ → Option ℤ
+at_count f (Some n) = f n
+at_count f None = none
+
+-- a count's short form, or none: whatever answers nothing from 128 on answers the same by both
+abbrev pub CountStands : Std.Option ℕ → ℤ → Type 0
+CountStands short count = (f : ℕ → Option ℤ) → ((n : ℕ) → 128 ≤ n → none ≡ f n) → at_count f short ≡ by_count f count
 
 -- n or -n: a number by its sign and its magnitude
 abbrev pub signed_of : Bool → ℕ → ℤ

@@ -12,20 +12,12 @@ pub mod sums;
 pub mod words;
 
 pub use order::int_fits;
-pub use words::{CheckedI64, CheckedU64};
 
 // hi * 2^64 + lo, less 2^128 where hi is 2^63 or more.
 #[derive(Clone, Copy)]
 pub struct Int128 {
     pub hi: u64,
     pub lo: u64,
-}
-
-// An answer, or nothing where there is none.
-#[derive(Clone, Copy)]
-pub enum Checked {
-    Value(Int128),
-    Nothing,
 }
 
 // The bit of the sign.

@@ -4,7 +4,7 @@ ghost use Rattle.std.specs.Int.Signed.{non_neg};
 ghost use Rattle.int128.specs.Value.{bits_of, value_of, checked_of};
 ghost use Rattle.int128.specs.Ops.{exact, signed_of};
 
-use super::{Checked, Int128, SIGN};
+use super::{Int128, SIGN};
 
 pub(crate) fn negative(x: Int128) -> bool
     ensures { result ≡ not (non_neg (value_of x)) }
@@ -31,21 +31,21 @@ pub(crate) fn magnitude(x: Int128) -> Int128
 }
 
 // The magnitude with a sign, where it lies in the range: up to 2^127 - 1, or 2^127 below 0.
-pub(crate) fn signed(x: Int128, below: bool) -> Checked
+pub(crate) fn signed(x: Int128, below: bool) -> Option<Int128>
     ensures { checked_of result ≡ exact (signed_of below (bits_of x)) }
 {
     if x.hi < SIGN {
         if below {
             return x.checked_neg();
         }
-        return Checked::Value(x);
+        return Some(x);
     }
     if below {
         if x.hi == SIGN {
             if x.lo == 0 {
-                return Checked::Value(x);
+                return Some(x);
             }
         }
     }
-    Checked::Nothing
+    None
 }

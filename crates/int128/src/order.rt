@@ -1,50 +1,68 @@
 // Comparison, and the four ranges of int_fits.
-ghost use Rattle.std.specs.Prelude.{◌≡◌, true, ltb};
-ghost use Rattle.std.specs.Int.Signed.{lt_z, le_z};
+ghost use Rattle.std.specs.Prelude.{◌≡◌};
+ghost use Rattle.std.specs.Ordering.{on, int_eq, int_cmp, nat_cmp, as_partial_cmp};
+ghost use Rattle.std.specs.Cmp.{partial_order_from_own_ties};
+ghost use Rattle.std.specs.Cmp.Rules.{comparing};
+ghost use Rattle.std.proofs.Common.{rules};
 ghost use Rattle.int128.specs.Value.{bits_of, value_of};
 ghost use Rattle.int128.specs.Ops.{least_of, greatest_of, int_fits};
 
 use super::{Int128, SIGN};
+use std::cmp::Ordering;
 
-// a < b, of the bits as unsigned numbers.
-pub(crate) fn below(a: Int128, b: Int128) -> bool
-    ensures { result ≡ ltb (bits_of a) (bits_of b) }
+// The bits as unsigned numbers.
+pub(crate) fn cmp_bits(a: Int128, b: Int128) -> Ordering
+    ensures { result ≡ nat_cmp (bits_of a) (bits_of b) }
 {
-    if a.hi == b.hi {
-        return a.lo < b.lo;
-    }
-    a.hi < b.hi
+    a.hi.cmp(&b.hi).then(a.lo.cmp(&b.lo))
 }
 
-impl Int128 {
-    pub fn lt(self, other: Int128) -> bool
-        ensures { result ≡ lt_z (value_of self) (value_of other) }
-    {
-        if self.hi < SIGN {
-            if other.hi < SIGN {
-                return below(self, other);
+// These compare the whole numbers. A derive would promise only what the halves are.
+impl PartialEq for Int128 {
+    ghost eq = { on value_of int_eq };
+
+    ghost laws = { Prim.search (comparing, rules) };
+
+    fn eq(&self, other: &Int128) -> bool {
+        self.cmp(other).is_eq()
+    }
+}
+
+impl Eq for Int128 {
+    ghost laws = { Prim.search (comparing, rules) };
+}
+
+impl Ord for Int128 {
+    ghost cmp = { on value_of int_cmp };
+
+    ghost total = { Prim.search (comparing, rules) };
+
+    ghost matches_partial_cmp = { Prim.search (comparing, rules) };
+
+    ghost matches_eq = { Prim.search (comparing, rules) };
+
+    // Where the signs are equal the bits decide, else the signs.
+    fn cmp(&self, other: &Int128) -> Ordering {
+        let a = *self;
+        let b = *other;
+        if a.hi < SIGN {
+            if SIGN <= b.hi {
+                return Ordering::Greater;
             }
-            return false;
+        } else if b.hi < SIGN {
+            return Ordering::Less;
         }
-        if other.hi < SIGN {
-            return true;
-        }
-        below(self, other)
+        cmp_bits(a, b)
     }
+}
 
-    pub fn le(self, other: Int128) -> bool
-        ensures { result ≡ le_z (value_of self) (value_of other) }
-    {
-        !other.lt(self)
-    }
+impl PartialOrd for Int128 {
+    ghost partial_cmp = { as_partial_cmp (on value_of int_cmp) };
 
-    pub fn eq(self, other: Int128) -> bool
-        ensures { (result ≡ true → value_of self ≡ value_of other) × (value_of self ≡ value_of other → result ≡ true) }
-    {
-        if self.hi == other.hi {
-            return self.lo == other.lo;
-        }
-        false
+    ghost laws = { partial_order_from_own_ties (Prim.search (comparing, rules)) (Prim.search (comparing, rules)) };
+
+    fn partial_cmp(&self, other: &Int128) -> Option<Ordering> {
+        Some(self.cmp(other))
     }
 }
 
@@ -98,8 +116,5 @@ fn greatest(short: bool, unsigned: bool) -> Int128
 pub fn int_fits(value: Int128, short: bool, unsigned: bool) -> bool
     ensures { result ≡ int_fits (value_of value) short unsigned }
 {
-    if least(short, unsigned).le(value) {
-        return value.le(greatest(short, unsigned));
-    }
-    false
+    least(short, unsigned) <= value && value <= greatest(short, unsigned)
 }

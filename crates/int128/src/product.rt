@@ -4,15 +4,8 @@ ghost use Rattle.int128.specs.Value.{bits_of, value_of, checked_of};
 ghost use Rattle.int128.specs.Ops.{mul_of};
 ghost use Rattle.int128.specs.Magnitude.{IsProduct};
 
+use super::Int128;
 use super::magnitude::{magnitude, negative, signed};
-use super::{Checked, Int128};
-
-// A magnitude, or that it is 2^128 or more.
-#[derive(Clone, Copy)]
-pub(crate) enum Product {
-    Fits(Int128),
-    Over,
-}
 
 pub(crate) const BASE: u64 = 0x1_0000_0000;
 
@@ -34,8 +27,8 @@ pub(crate) fn mul_words(u: u64, v: u64) -> Int128
     }
 }
 
-// x * w, of magnitudes.
-pub(crate) fn mul_word(x: Int128, w: u64) -> Product
+// x * w, of magnitudes; nothing where it is 2^128 or more.
+pub(crate) fn mul_word(x: Int128, w: u64) -> Option<Int128>
     ensures { IsProduct (bits_of x * w) result }
 {
     let low = mul_words(x.lo, w);
@@ -44,17 +37,17 @@ pub(crate) fn mul_word(x: Int128, w: u64) -> Product
     let added = high.lo;
     if high.hi == 0 {
         if added <= u64::MAX - carried {
-            return Product::Fits(Int128 {
+            return Some(Int128 {
                 hi: added + carried,
                 lo: low.lo,
             });
         }
     }
-    Product::Over
+    None
 }
 
 // a * b, of magnitudes. Where both are 2^64 or more the product is 2^128 or more.
-fn mul_bits(a: Int128, b: Int128) -> Product
+fn mul_bits(a: Int128, b: Int128) -> Option<Int128>
     ensures { IsProduct (bits_of a * bits_of b) result }
 {
     if a.hi == 0 {
@@ -63,16 +56,14 @@ fn mul_bits(a: Int128, b: Int128) -> Product
     if b.hi == 0 {
         return mul_word(a, b.lo);
     }
-    Product::Over
+    None
 }
 
 impl Int128 {
-    pub fn checked_mul(self, other: Int128) -> Checked
+    pub fn checked_mul(self, other: Int128) -> Option<Int128>
         ensures { checked_of result ≡ mul_of (value_of self) (value_of other) }
     {
-        match mul_bits(magnitude(self), magnitude(other)) {
-            Product::Fits(p) => signed(p, negative(self) != negative(other)),
-            Product::Over => Checked::Nothing,
-        }
+        let p = mul_bits(magnitude(self), magnitude(other))?;
+        signed(p, negative(self) != negative(other))
     }
 }

@@ -5,11 +5,11 @@ ghost use Rattle.std.specs.Prelude.{◌≡◌, ◌+◌, ◌-◌, ◌*◌, ◌/�
 ghost use Rattle.int128.specs.Value.{bits_of, value_of, checked_of};
 ghost use Rattle.int128.specs.Ops.{div_of, rem_of};
 
+use super::Int128;
 use super::magnitude::{magnitude, negative, signed};
-use super::order::below;
-use super::product::{BASE, Product, mul_word};
+use super::order::cmp_bits;
+use super::product::{BASE, mul_word};
 use super::shifts::{shl_bits, shr_bits};
-use super::{Checked, Int128};
 
 // Of magnitudes.
 #[derive(Clone, Copy)]
@@ -46,8 +46,8 @@ fn at_most(d: Int128, q: u64, n: Int128) -> bool
     ensures { result ≡ leb (bits_of d * q) (bits_of n) }
 {
     match mul_word(d, q) {
-        Product::Fits(p) => !below(n, p),
-        Product::Over => false,
+        Some(p) => cmp_bits(p, n).is_le(),
+        None => false,
     }
 }
 
@@ -69,8 +69,8 @@ fn rest(n: Int128, d: Int128, q: u64) -> Int128
     ensures { bits_of result ≡ bits_of n % bits_of d }
 {
     match mul_word(d, q) {
-        Product::Fits(p) => sub_bits(n, p),
-        Product::Over => n,
+        Some(p) => sub_bits(n, p),
+        None => n,
     }
 }
 
@@ -186,29 +186,27 @@ fn is_zero(x: Int128) -> bool
 
 impl Int128 {
     // Cut towards zero.
-    pub fn checked_div(self, other: Int128) -> Checked
+    pub fn checked_div(self, other: Int128) -> Option<Int128>
         ensures { checked_of result ≡ div_of (value_of self) (value_of other) }
     {
         let d = magnitude(other);
         if is_zero(d) {
-            return Checked::Nothing;
+            return None;
         }
         let both = div_rem(magnitude(self), d);
         signed(both.quotient, negative(self) != negative(other))
     }
 
     // With the sign of self. Where the quotient does not fit there is no remainder either.
-    pub fn checked_rem(self, other: Int128) -> Checked
+    pub fn checked_rem(self, other: Int128) -> Option<Int128>
         ensures { checked_of result ≡ rem_of (value_of self) (value_of other) }
     {
         let d = magnitude(other);
         if is_zero(d) {
-            return Checked::Nothing;
+            return None;
         }
         let both = div_rem(magnitude(self), d);
-        match signed(both.quotient, negative(self) != negative(other)) {
-            Checked::Value(_) => signed(both.remainder, negative(self)),
-            Checked::Nothing => Checked::Nothing,
-        }
+        signed(both.quotient, negative(self) != negative(other))?;
+        signed(both.remainder, negative(self))
     }
 }

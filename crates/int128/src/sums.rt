@@ -1,9 +1,9 @@
-// Sum, difference, negation and complement.
+// Sum, difference and negation.
 ghost use Rattle.std.specs.Prelude.{◌≡◌, ◌+◌, ◌*◌, ◌≤◌, ◌^◌, pos, ◌+ℤ◌};
 ghost use Rattle.int128.specs.Value.{value_of, checked_of};
-ghost use Rattle.int128.specs.Ops.{exact, add_of, sub_of, neg_of, not_of};
+ghost use Rattle.int128.specs.Ops.{exact, add_of, sub_of, neg_of};
 
-use super::{Checked, Int128, SIGN};
+use super::{Int128, SIGN};
 
 // A sum of two halves: 64 bits, and 1 where it carries.
 #[derive(Clone, Copy)]
@@ -40,7 +40,7 @@ fn add_half(a: u64, b: u64, carry: u64) -> Half
 }
 
 // The sum of two numbers and a carry of 0 or 1. It passes the range only where both have one sign and the bits of the sum the other.
-fn sum(a: Int128, b: Int128, carry: u64) -> Checked
+fn sum(a: Int128, b: Int128, carry: u64) -> Option<Int128>
     requires { carry ≤ 1 }
     ensures { checked_of result ≡ exact (value_of a +ℤ value_of b +ℤ pos carry) }
 {
@@ -54,49 +54,39 @@ fn sum(a: Int128, b: Int128, carry: u64) -> Checked
     if a.hi < SIGN {
         if b.hi < SIGN {
             if top < SIGN {
-                return Checked::Value(r);
+                return Some(r);
             }
-            return Checked::Nothing;
+            return None;
         }
-        return Checked::Value(r);
+        return Some(r);
     }
     if b.hi < SIGN {
-        return Checked::Value(r);
+        return Some(r);
     }
     if top < SIGN {
-        return Checked::Nothing;
+        return None;
     }
-    Checked::Value(r)
+    Some(r)
 }
 
 impl Int128 {
-    // Each bit the other way.
-    pub fn not(self) -> Int128
-        ensures { value_of result ≡ not_of (value_of self) }
-    {
-        Int128 {
-            hi: !self.hi,
-            lo: !self.lo,
-        }
-    }
-
-    pub fn checked_add(self, other: Int128) -> Checked
+    pub fn checked_add(self, other: Int128) -> Option<Int128>
         ensures { checked_of result ≡ add_of (value_of self) (value_of other) }
     {
         sum(self, other, 0)
     }
 
     // a - b is a + !b + 1.
-    pub fn checked_sub(self, other: Int128) -> Checked
+    pub fn checked_sub(self, other: Int128) -> Option<Int128>
         ensures { checked_of result ≡ sub_of (value_of self) (value_of other) }
     {
-        sum(self, other.not(), 1)
+        sum(self, !other, 1)
     }
 
     // -a is 0 + !a + 1.
-    pub fn checked_neg(self) -> Checked
+    pub fn checked_neg(self) -> Option<Int128>
         ensures { checked_of result ≡ neg_of (value_of self) }
     {
-        sum(Int128::from_u64(0), self.not(), 1)
+        sum(Int128::from(0u64), !self, 1)
     }
 }

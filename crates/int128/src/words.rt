@@ -4,27 +4,13 @@ ghost use Rattle.std.specs.Int.{w64};
 ghost use Rattle.std.proofs.Common.{to_z};
 ghost use Rattle.int128.specs.Value.{value_of, checked_u64_of, checked_i64_of};
 ghost use Rattle.int128.specs.Ops.{to_u64_of, to_i64_of};
-ghost use Rattle.int128.specs.Ops.{to_u64_of, to_i64_of};
 
 use super::{Int128, SIGN};
 
-// A number of 64 bits, or nothing where it does not fit.
-#[derive(Clone, Copy)]
-pub enum CheckedI64 {
-    Value(i64),
-    Nothing,
-}
+impl From<i64> for Int128 {
+    ghost from_gives = { λ x r. value_of r ≡ x };
 
-#[derive(Clone, Copy)]
-pub enum CheckedU64 {
-    Value(u64),
-    Nothing,
-}
-
-impl Int128 {
-    pub fn from_i64(x: i64) -> Int128
-        ensures { value_of result ≡ x }
-    {
+    fn from(x: i64) -> Int128 {
         if x < 0 {
             let n = (-1 - x) as u64;
             return Int128 {
@@ -37,13 +23,17 @@ impl Int128 {
             lo: x as u64,
         }
     }
+}
 
-    pub fn from_u64(x: u64) -> Int128
-        ensures { value_of result ≡ pos x }
-    {
+impl From<u64> for Int128 {
+    ghost from_gives = { λ x r. value_of r ≡ pos x };
+
+    fn from(x: u64) -> Int128 {
         Int128 { hi: 0, lo: x }
     }
+}
 
+impl Int128 {
     // The number that 64 bits stand for in two's complement.
     pub fn from_i64_bits(bits: u64) -> Int128
         ensures { value_of result ≡ to_z w64 bits }
@@ -57,31 +47,31 @@ impl Int128 {
         }
     }
 
-    pub fn to_u64(self) -> CheckedU64
+    pub fn to_u64(self) -> Option<u64>
         ensures { checked_u64_of result ≡ to_u64_of (value_of self) }
     {
         if self.hi == 0 {
-            return CheckedU64::Value(self.lo);
+            return Some(self.lo);
         }
-        CheckedU64::Nothing
+        None
     }
 
-    pub fn to_i64(self) -> CheckedI64
+    pub fn to_i64(self) -> Option<i64>
         ensures { checked_i64_of result ≡ to_i64_of (value_of self) }
     {
         if self.hi == 0 {
             if self.lo < SIGN {
-                return CheckedI64::Value(self.lo as i64);
+                return Some(self.lo as i64);
             }
-            return CheckedI64::Nothing;
+            return None;
         }
         if self.hi == u64::MAX {
             if self.lo < SIGN {
-                return CheckedI64::Nothing;
+                return None;
             }
             let n = u64::MAX - self.lo;
-            return CheckedI64::Value(-1 - (n as i64));
+            return Some(-1 - (n as i64));
         }
-        CheckedI64::Nothing
+        None
     }
 }

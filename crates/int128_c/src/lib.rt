@@ -9,18 +9,18 @@ ghost use Rattle.std.specs.Prelude.{◌≡◌};
 ghost use Rattle.int128.specs.Value.{checked_of};
 ghost use Rattle.int128_c.specs.Words.{value_in, answer_in};
 
-use int128::{Checked, Int128};
+use int128::Int128;
 
-fn put(answer: Checked, hi: &mut u64, lo: &mut u64) -> bool
+fn put(answer: Option<Int128>, hi: &mut u64, lo: &mut u64) -> bool
     ensures { answer_in result hi.new lo.new ≡ answer }
 {
     match answer {
-        Checked::Value(x) => {
+        Some(x) => {
             *hi = x.hi;
             *lo = x.lo;
             true
         }
-        Checked::Nothing => {
+        None => {
             *hi = 0;
             *lo = 0;
             false
@@ -121,7 +121,7 @@ pub extern "C" fn int128_c_and(
 {
     let a = Int128 { hi: ah, lo: al };
     let b = Int128 { hi: bh, lo: bl };
-    put(Checked::Value(a.bitand(b)), hi, lo)
+    put(Some(a & b), hi, lo)
 }
 
 #[unsafe(no_mangle)]
@@ -137,7 +137,7 @@ pub extern "C" fn int128_c_or(
 {
     let a = Int128 { hi: ah, lo: al };
     let b = Int128 { hi: bh, lo: bl };
-    put(Checked::Value(a.bitor(b)), hi, lo)
+    put(Some(a | b), hi, lo)
 }
 
 #[unsafe(no_mangle)]
@@ -153,7 +153,7 @@ pub extern "C" fn int128_c_xor(
 {
     let a = Int128 { hi: ah, lo: al };
     let b = Int128 { hi: bh, lo: bl };
-    put(Checked::Value(a.bitxor(b)), hi, lo)
+    put(Some(a ^ b), hi, lo)
 }
 
 #[unsafe(no_mangle)]
@@ -201,7 +201,7 @@ pub extern "C" fn int128_c_not(ah: u64, al: u64, hi: &mut u64, lo: &mut u64) -> 
     ensures { checked_of (answer_in result hi.new lo.new) ≡ some (not_of (value_in ah al)) }
 {
     let a = Int128 { hi: ah, lo: al };
-    put(Checked::Value(a.not()), hi, lo)
+    put(Some(!a), hi, lo)
 }
 
 #[unsafe(no_mangle)]
@@ -210,7 +210,7 @@ pub extern "C" fn int128_c_lt(ah: u64, al: u64, bh: u64, bl: u64) -> bool
 {
     let a = Int128 { hi: ah, lo: al };
     let b = Int128 { hi: bh, lo: bl };
-    a.lt(b)
+    a < b
 }
 
 #[unsafe(no_mangle)]

@@ -2,49 +2,36 @@
 // each. For each it writes a line: 1 and the halves of the answer, or 0. The file stdout has what Rust's i128 answers.
 #![tactic(auto)]
 
-ghost use Rattle.std.specs.Prelude.{◌+◌, ◌≤◌, ◌<◌, length, IfOk};
+ghost use Rattle.std.specs.Prelude.{◌<◌};
 
-use int128::{Checked, Int128};
+use int128::Int128;
 use std::io;
-use std::io::Read;
+use std::io::{ErrorKind, Read};
 
 fn hex_digit(b: u8) -> u64
     ensures { result < 16 }
 {
-    if b >= 48 {
-        if b <= 57 {
-            return (b - 48) as u64;
-        }
+    match b {
+        b'0'..=b'9' => (b - b'0') as u64,
+        b'a'..=b'f' => (b - b'a' + 10) as u64,
+        _ => 0,
     }
-    if b >= 97 {
-        if b <= 102 {
-            return (b - 87) as u64;
-        }
-    }
-    0
 }
 
-// The number that 16 digits spell, from an index on.
-fn hex_word(line: &[u8; 66], from: usize) -> u64
-    requires { from + 16 ≤ 66 }
-{
+// The number that 16 digits spell.
+fn hex_word(digits: &[u8]) -> u64 {
     let mut value: u64 = 0;
-    let mut i: usize = 0;
-    while i < 16 {
-        value = value % 0x1000_0000_0000_0000 * 16 + hex_digit(line[from + i]);
-        i += 1;
+    for digit in digits {
+        value = value % 0x1000_0000_0000_0000 * 16 + hex_digit(*digit);
     }
     value
 }
 
-fn flag(b: bool) -> Checked {
-    if b {
-        return Checked::Value(Int128 { hi: 0, lo: 1 });
-    }
-    Checked::Nothing
+fn flag(b: bool) -> Option<Int128> {
+    b.then_some(Int128 { hi: 0, lo: 1 })
 }
 
-fn apply(op: u8, a: Int128, b: Int128) -> Checked {
+fn apply(op: u8, a: Int128, b: Int128) -> Option<Int128> {
     match op {
         b'+' => a.checked_add(b),
         b'-' => a.checked_sub(b),
@@ -53,71 +40,52 @@ fn apply(op: u8, a: Int128, b: Int128) -> Checked {
         b'%' => a.checked_rem(b),
         b'<' => a.checked_shl_by(b),
         b'>' => a.checked_shr_by(b),
-        _ => apply_other(op, a, b),
-    }
-}
-
-fn apply_other(op: u8, a: Int128, b: Int128) -> Checked {
-    match op {
-        b'&' => Checked::Value(a.bitand(b)),
-        b'|' => Checked::Value(a.bitor(b)),
-        b'^' => Checked::Value(a.bitxor(b)),
-        b'~' => Checked::Value(a.not()),
+        b'&' => Some(a & b),
+        b'|' => Some(a | b),
+        b'^' => Some(a ^ b),
+        b'~' => Some(!a),
         b'n' => a.checked_neg(),
-        b'l' => flag(a.lt(b)),
+        b'l' => flag(a < b),
         b'i' => flag(int128::int_fits(a, true, false)),
         b'u' => flag(int128::int_fits(a, true, true)),
         b'I' => flag(int128::int_fits(a, false, false)),
         b'U' => flag(int128::int_fits(a, false, true)),
-        _ => Checked::Nothing,
+        _ => None,
     }
 }
 
-fn print_checked(rt: &impl Print, answer: Checked) -> io::Result<()> {
+fn print_checked(rt: &impl Print, answer: Option<Int128>) -> io::Result<()> {
     match answer {
-        Checked::Value(x) => {
+        Some(x) => {
             let hi = x.hi;
             let lo = x.lo;
             println!(rt; "1 {hi:016x} {lo:016x}")
         }
-        Checked::Nothing => println!(rt; "0"),
+        None => println!(rt; "0"),
     }
 }
 
 fn run(rt: &impl Print, line: &[u8; 66]) -> io::Result<()> {
     let op = line[0];
     let a = Int128 {
-        hi: hex_word(line, 1),
-        lo: hex_word(line, 17),
+        hi: hex_word(&line[1..17]),
+        lo: hex_word(&line[17..33]),
     };
     let b = Int128 {
-        hi: hex_word(line, 33),
-        lo: hex_word(line, 49),
+        hi: hex_word(&line[33..49]),
+        lo: hex_word(&line[49..65]),
     };
     print_checked(rt, apply(op, a, b))
-}
-
-// Reads until the buffer is full or the input ends; says how many bytes there were.
-fn read_full<R: Read>(input: &mut R, buffer: &mut [u8]) -> io::Result<usize>
-    ensures { IfOk result (λ n. n ≤ length buffer.new) }
-{
-    let mut n = 0;
-    for _ in 0..u64::MAX {
-        let m = input.read(&mut buffer[n..])?;
-        if m == 0 {
-            break;
-        }
-        n += m;
-    }
-    Ok(n)
 }
 
 // One case; false where none is left.
 fn next_line<R: Read>(rt: &impl Print, input: &mut R) -> io::Result<bool> {
     let mut line = [0u8; 66];
-    let n = read_full(input, &mut line)?;
-    if n < 66 {
-        return Ok(false);
+    if let Err(e) = input.read_exact(&mut line) {
+        if e.kind() == ErrorKind::UnexpectedEof {
+            return Ok(false);
+        }
+        return Err(e);
     }
     run(rt, &line)?;
     Ok(true)
@@ -125,12 +93,10 @@ fn next_line<R: Read>(rt: &impl Print, input: &mut R) -> io::Result<bool> {
 
 fn main(rt: HostRuntime) -> io::Result<()> {
     let mut input = rt.reader();
-    let mut left: u32 = 100_000;
-    while 0 < left {
+    for _ in 0..100_000 {
         if !next_line(&rt, &mut input)? {
-            return Ok(());
+            break;
         }
-        left -= 1;
     }
     Ok(())
 }

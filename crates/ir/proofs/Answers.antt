@@ -22,8 +22,7 @@ use Rattle.ir.specs.declared.pool.PoolNumber.{PoolNumber}
 use Rattle.ir.specs.Instructions.{var_of, field_bytes}
 use Rattle.ir.specs.Amounts.{Amount, Spent}
 use Rattle.ir.specs.Arena.{NumberedTexts, TablesSoFar, HasSlot, label_slot, float_bucket, float_entry_bucket, Holds, Room}
-use Rattle.records.specs.declared.words.Found.{Found}
-use Rattle.records.specs.declared.words.Found.TheVariants.{At, Nothing}
+use Rattle.std.specs.Prelude.{Option as StdOption, Some, None}
 use Rattle.ir.specs.Search.{label_is, string_is, float_words_at, Walks, float_head}
 use Rattle.ir.specs.Steps.{grown, Stands, Next, NextIn, more_instructions, more_variables, more_labels, more_strings, more_floats, WroteTwo, WroteThree, Emits, AddsVar, named, NumbersLabel, entry_of_string, StringAdded, NumbersString, NumbersFloat}
 use Rattle.ir.proofs.Entries.{written-length, written-word}
@@ -192,7 +191,7 @@ float_bytes_lem e a b c ea eb ec =
     rw (ea, eb, ec) (ap (λ (z : List ℕ). z ++ word (bool_number e.short) ++ word 0) (sym (wide-words e.bits)))
 
 -- what a walk from the head of its bucket answered
-module _ (f e : FloatEntry) (same : e ≡ f) (b c d p v : ℕ) (k : Counters) (l : List ℕ) (a : Found) (room : Room k l)
+module _ (f e : FloatEntry) (same : e ≡ f) (b c d p v : ℕ) (k : Counters) (l : List ℕ) (a : StdOption ℕ) (room : Room k l)
     (eb : b ≡ e.bits % 4294967296) (ec : (c ≡ e.bits / 4294967296) × (c < 4294967296)) (ed : d ≡ bool_number e.short)
     (ep : (p ≡ float_bucket k.records b c d) × (p < k.records)) (ev : (v ≡ float_head l k.records k.floats p) × (v ≤ k.floats))
     (es : Walks (λ j. word_at l (268 * k.records + 4 * j)) (float_words_at l (204 * k.records) b c d) v a) where
@@ -202,28 +201,28 @@ module _ (f e : FloatEntry) (same : e ≡ f) (b c d p v : ℕ) (k : Counters) (l
   float_head-is : v ≡ float_head l k.records k.floats (float_entry_bucket k.records e)
   float_head-is = ev.0 ∙ ap (λ (x : ℕ). float_head l k.records k.floats x) float_bucket-is
 
-  float_walked : (r : Found) → a ≡ r → Walks (λ j. word_at l (268 * k.records + 4 * j)) (float_words_at l (204 * k.records) (e.bits % 4294967296) (e.bits / 4294967296) (bool_number e.short))
+  float_walked : (r : StdOption ℕ) → a ≡ r → Walks (λ j. word_at l (268 * k.records + 4 * j)) (float_words_at l (204 * k.records) (e.bits % 4294967296) (e.bits / 4294967296) (bool_number e.short))
       (float_head l k.records k.floats (float_entry_bucket k.records e)) r
   float_walked r q =
-      subst (λ (z : Found). Walks (λ j. word_at l (268 * k.records + 4 * j)) (float_words_at l (204 * k.records) (e.bits % 4294967296) (e.bits / 4294967296) (bool_number e.short))
+      subst (λ (z : StdOption ℕ). Walks (λ j. word_at l (268 * k.records + 4 * j)) (float_words_at l (204 * k.records) (e.bits % 4294967296) (e.bits / 4294967296) (bool_number e.short))
       (float_head l k.records k.floats (float_entry_bucket k.records e)) z) q
       (subst (λ (u : ℕ). Walks (λ j. word_at l (268 * k.records + 4 * j)) (float_words_at l (204 * k.records) (e.bits % 4294967296) (e.bits / 4294967296) (bool_number e.short)) u a) float_head-is
       (rw (← eb, ← ec.0, ← ed) es))
 
-  pub float_at : (r : PoolNumber) (i : ℕ) → a ≡ At i → r.number ≡ i → r.counters ≡ k → NumbersFloat f k l r l
+  pub float_at : (r : PoolNumber) (i : ℕ) → a ≡ Some i → r.number ≡ i → r.counters ≡ k → NumbersFloat f k l r l
   unfolding float_id
   float_at r i q ex ek = subst (λ (g : FloatEntry). NumbersFloat g k l r l) same (record {
     next = subst (λ (k' : Counters). Next (float_id e) k l r.number k' l) (sym ek) (record {
       room = room;
       records = refl;
       stands = λ texts t h. found texts t k l room h (position (same_float e) t.state.floats) (with_float e t.state) (length t.state.floats) i r.number
-          (float_here texts t k l h e i (float_walked (At i) q)) ex;
+          (float_here texts t k l h e i (float_walked (Some i) q)) ex;
     });
     spent = same-spent (omega arith) ek;
     entry = inr (record { counts = ek; same = refl });
   })
 
-  pub float_nowhere : (l' : List ℕ) (r : PoolNumber) → k.floats < 2 * k.records → a ≡ Nothing
+  pub float_nowhere : (l' : List ℕ) (r : PoolNumber) → k.floats < 2 * k.records → a ≡ None
       → (r.number ≡ k.floats)
       × WroteThree l (204 * k.records + 16 * k.floats) (word b ++ word c ++ word d ++ word 0) (268 * k.records + 4 * k.floats) (word v)
       (276 * k.records + 4 * p) (word k.floats) (more_floats k) r.counters l'
@@ -248,7 +247,7 @@ module _ (f e : FloatEntry) (same : e ≡ f) (b c d p v : ℕ) (k : Counters) (l
           room = omega (arith, room, long, linked-length linked);
           records = refl;
           stands = λ texts t h.
-              let new : position (same_float e) t.state.floats ≡ none = float_gone texts t k l h e (float_walked Nothing q) in
+              let new : position (same_float e) t.state.floats ≡ none = float_gone texts t k l h e (float_walked None q) in
               added texts t (more_floats k) l' (position (same_float e) t.state.floats) (with_float e t.state) (length t.state.floats) r.number new (m.0 ∙ h.floats_hold.count)
               (float_holds texts t k l room h e head l₁ l' (record { bits = omega (arith, ec.0, ec.1) }) small inside (float_start texts t k l h bucket) new refl linked);
         });

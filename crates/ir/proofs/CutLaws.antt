@@ -1,11 +1,12 @@
--- Cutting out: what the loops that copy and that clear have done after i turns, that a part alone is what is left, and that the buffers then hold the tables.
--- By the laws of a copy, and by what the arena holds. Assumes nothing.
-use mathlib.Core.Path.{◌≡◌, refl, sym, ap, ap₂, ◌∙◌}
-use mathlib.Core.List.{List, [], ◌∷◌, ◌++◌, append-nil}
-use Prim.Native.Nat.{ℕ, zero, suc, ◌+◌, ◌-◌, ◌*◌, ◌≤◌, ◌<◌}
+-- Cutting out: what is there once the rest is zero, that a part alone is what is left, and that the buffers then hold the tables.
+-- By the laws of parts, and by what the arena holds. Assumes nothing.
+use mathlib.Core.Path.{◌≡◌, sym, ap, ap₂, ◌∙◌}
+use mathlib.Core.List.{List, [], ◌++◌, append-nil}
+use Prim.Native.Nat.{ℕ, ◌+◌, ◌-◌, ◌*◌, ◌≤◌}
 use native.Mathlib.Omega.{arith}
-use lib.ListN.{length, take, drop, get_or, set, replicate, length-append, length-drop, length-replicate, get_or-replicate}
-use lib.Seq.{paste, paste-zero, paste-suc, get_or-drop, length-take-le, take_at, drop-length}
+use borrow.Rule.Slice.PartMut.{put_mid}
+use lib.ListN.{length, take, drop, replicate, length-append, length-drop}
+use lib.Seq.{length-take-le, take_at, drop-drop, drop-length}
 use Rattle.laws.specs.Splice.{part, filled}
 use Rattle.laws.proofs.Splices.{filled-length}
 use Rattle.conversion.specs.Ir.{IrProgram}
@@ -16,49 +17,19 @@ use Rattle.ir.specs.Arena.{Table, NumberedTexts, TablesSoFar, Holds}
 use Rattle.ir.specs.Cut.{Cut}
 use Rattle.ir.proofs.Entries.{bytes-length}
 
--- ---- copying
-
-pub copy_more : (d l : List ℕ) (from i : ℕ) → i < length d → from + i < length l
-    → set (part l from i ++ drop i d) i (get_or l (from + i) 0) ≡ part l from (i + 1) ++ drop (i + 1) d
-copy_more d l from i hd hl =
-    let s : List ℕ = drop from l in
-    let z : 0 + i ≡ i = omega arith in
-    let y : 0 + suc i ≡ i + 1 = omega arith in
-    let x : suc i ≡ i + 1 = omega arith in
-    let p : set (paste d 0 s i) (0 + i) (get_or s i 0) ≡ paste d 0 s (suc i) = paste-suc d 0 s i 0 (omega arith) (rw length-drop (omega arith)) in
-    ap (λ (v : ℕ). set (take i s ++ drop i d) i v) (sym (get_or-drop from l i 0))
-    ∙ ap (λ (m : ℕ). set (take i s ++ drop m d) m (get_or s i 0)) (sym z)
-    ∙ p
-    ∙ ap₂ (λ (m j : ℕ). take m s ++ drop j d) x y
-
 -- ---- clearing
 
-abbrev pub zeros : List ℕ → List ℕ
-zeros d = replicate {A = ℕ} (length d) 0
-
-pub clear_none : (d : List ℕ) (at : ℕ) → d ≡ paste d at (zeros d) 0
-clear_none d at = paste-zero d at (zeros d)
-
-pub clear_more : (d : List ℕ) (at i : ℕ) → at + i < length d → set (paste d at (zeros d) i) (at + i) 0 ≡ paste d at (zeros d) (i + 1)
-clear_more d at i h =
-    let x : suc i ≡ i + 1 = omega arith in
-    ap (set (paste d at (zeros d) i) (at + i)) (sym (get_or-replicate {A = ℕ} (length d) i 0 0 (omega arith)))
-    ∙ paste-suc d at (zeros d) i 0 h (rw (length-replicate {A = ℕ} (length d) 0) (omega arith))
-    ∙ ap (paste d at (zeros d)) x
-
-take-zeros : (m n : ℕ) → m ≤ n → take m (replicate {A = ℕ} n 0) ≡ replicate {A = ℕ} m 0
-take-zeros zero n h = refl
-take-zeros (suc m) zero h = absurd (omega arith)
-take-zeros (suc m) (suc n) h = ap (λ (r : List ℕ). 0 ∷ r) (take-zeros m n (omega arith))
-
-pub clear_end : (d : List ℕ) (at i : ℕ) → at ≤ length d → i ≡ length d - at → paste d at (zeros d) i ≡ filled (part d 0 at) (length d)
+-- what the slice has once zeros stand from byte `at` on
+pub clear_is : (d ys : List ℕ) (at : ℕ) → at ≤ length d → ys ≡ replicate {A = ℕ} (length (take (length d - at) (drop at d))) 0
+    → put_mid at (length d - at) d ys ≡ filled (part d 0 at) (length d)
 unfolding filled
-clear_end d at i h e =
-    let z : at + i ≡ length d = omega arith in
+clear_is d ys at h e =
     let n : length (take at d) ≡ at = length-take-le at d h in
-    ap₂ (λ (x y : List ℕ). take at d ++ x ++ y) (take-zeros i (length d) (omega arith) ∙ ap (λ (m : ℕ). replicate {A = ℕ} m 0) (e ∙ ap (λ (m : ℕ). length d - m) (sym n)))
-    (ap (λ (m : ℕ). drop m d) z ∙ drop-length d)
-    ∙ append-nil _
+    let m : length (take (length d - at) (drop at d)) ≡ length d - at = length-take-le (length d - at) (drop at d) (rw length-drop (omega arith)) in
+    let z : at + (length d - at) ≡ length d = omega arith in
+    ap₂ (λ (x y : List ℕ). take at d ++ (x ++ y)) (e ∙ ap (λ (j : ℕ). replicate {A = ℕ} j 0) (m ∙ ap (λ (j : ℕ). length d - j) (sym n)))
+    (drop-drop (length d - at) at d ∙ ap (λ (j : ℕ). drop j d) z ∙ drop-length d)
+    ∙ ap (λ (r : List ℕ). take at d ++ r) (append-nil _)
 
 -- ---- both
 

@@ -16,8 +16,7 @@ use Rattle.laws.specs.Fix.{pick}
 use Rattle.laws.specs.Splice.{splice}
 use Rattle.laws.proofs.Tests.{tested, and_left, and_right}
 use Rattle.records.specs.Words.{word_at}
-use Rattle.records.specs.declared.words.Found.{Found}
-use Rattle.records.specs.declared.words.Found.TheVariants.{At, Nothing}
+use Rattle.std.specs.Prelude.{Option as StdOption, Some, None}
 use Rattle.records.proofs.Apart.{word-apart}
 use Rattle.conversion.specs.Ir.{FloatEntry, position, same_float}
 use Rattle.ir.specs.Arena.{Linked, LinkedEntries, float_bucket, float_entry_bucket}
@@ -72,7 +71,7 @@ module _ {X : Type 0} {bucket : X → ℕ} {same : X → X → Bool} {past : X} 
       in_bucket_lem : (j : ℕ) → j < length xs → f j ≡ true → buckets bucket past xs j ≡ bucket e
       in_bucket_lem j hj q = alike.one_bucket e (get_or xs j past) (sym (told j hj) ∙ q)
 
-      tells : {r : Found} → Walks (λ i. word_at l (links + 4 * i)) f v r → Told (length xs) f r
+      tells : {r : StdOption ℕ} → Walks (λ i. word_at l (links + 4 * i)) f v r → Told (length xs) f r
       tells w = walk_tells h.linked f (bucket e) in_bucket_lem w s.at (λ j hj q. s.all j hj (in_bucket_lem j hj q))
 
       twice : (i j : ℕ) → i < length xs → same e (get_or xs i past) ≡ true → same e (get_or xs j past) ≡ true → j < i → ⊥
@@ -84,13 +83,13 @@ module _ {X : Type 0} {bucket : X → ℕ} {same : X → X → Bool} {past : X} 
           (λ t. let a : i ≤ j = ltb-false j i t in
           tested (ltb i j) (λ u. absurd (twice j i hj qj qi (ltb-true i j u))) (λ u. let b : j ≤ i = ltb-false i j u in omega arith))
 
-      pub entry-there : (i : ℕ) → Walks (λ j. word_at l (links + 4 * j)) f v (At i) → position (same e) xs ≡ some i
+      pub entry-there : (i : ℕ) → Walks (λ j. word_at l (links + 4 * j)) f v (Some i) → position (same e) xs ≡ some i
       entry-there i w =
           let t : (i < length xs) × (f i ≡ true) = tells w in
           let q : same e (get_or xs i past) ≡ true = sym (told i t.0) ∙ t.1 in
           position-only (same e) past xs i t.0 q (λ j hj p. once i j t.0 hj q p)
 
-      pub entry_missing : Walks (λ j. word_at l (links + 4 * j)) f v Nothing → position (same e) xs ≡ none
+      pub entry_missing : Walks (λ j. word_at l (links + 4 * j)) f v None → position (same e) xs ≡ none
       entry_missing w =
           let t : (j : ℕ) → j < length xs → f j ≡ true → ⊥ = tells w in
           position_nowhere (same e) past xs (λ j hj p. t j hj (told j hj ∙ p))

@@ -9,8 +9,7 @@ use borrow.Author.Count.{below_more}
 use borrow.Author.Tests.{eqb-true, eqb-false, eq-eqb, ltb-true, lt-ltb}
 use Rattle.laws.specs.Fix.{pick}
 use Rattle.laws.proofs.Tests.{tested, and_left, and_right}
-use Rattle.records.specs.declared.words.Found.{Found}
-use Rattle.records.specs.declared.words.Found.TheVariants.{At, Nothing}
+use Rattle.std.specs.Prelude.{Option as StdOption, Some, None}
 use Rattle.ir.specs.Arena.{Linked}
 use Rattle.ir.specs.Search.{Walks, ended, here, further, astray}
 
@@ -23,23 +22,23 @@ one-past : (v j : ℕ) → 0 < v → j ≡ v - 1 → suc j ≡ v
 one-past v j h e = omega arith
 
 module _ {link : ℕ → ℕ} {f : ℕ → Bool} where
-  pub walk_end : (v : ℕ) → v ≤ 0 → Walks link f v Nothing
-  walk_end v h = let z : 0 ≡ v = omega arith in subst (λ (u : ℕ). Walks link f u Nothing) z ended
+  pub walk_end : (v : ℕ) → v ≤ 0 → Walks link f v None
+  walk_end v h = let z : 0 ≡ v = omega arith in subst (λ (u : ℕ). Walks link f u None) z ended
 
   module _ (v j : ℕ) (some : 0 < v) (e : j ≡ v - 1) where
-    pub walk_here : f j ≡ true → Walks link f v (At j)
-    walk_here q = subst (λ (u : ℕ). Walks link f u (At j)) (one-past v j some e) (here q)
+    pub walk_here : f j ≡ true → Walks link f v (Some j)
+    walk_here q = subst (λ (u : ℕ). Walks link f u (Some j)) (one-past v j some e) (here q)
 
     module _ (next : ℕ) (is : next ≡ link j) (other : f j ≡ false) where
-      pub walk_further : next ≤ j → (r : Found) → Walks link f next r → Walks link f v r
+      pub walk_further : next ≤ j → (r : StdOption ℕ) → Walks link f next r → Walks link f v r
       walk_further h r w =
           let low : link j ≤ j = subst (λ (x : ℕ). x ≤ j) is h in
           subst (λ (u : ℕ). Walks link f u r) (one-past v j some e) (further other low (subst (λ (x : ℕ). Walks link f x r) is w))
 
-      pub walk_astray : j < next → Walks link f v Nothing
-      walk_astray h = subst (λ (u : ℕ). Walks link f u Nothing) (one-past v j some e) (astray other (subst (λ (x : ℕ). j < x) is h))
+      pub walk_astray : j < next → Walks link f v None
+      walk_astray h = subst (λ (u : ℕ). Walks link f u None) (one-past v j some e) (astray other (subst (λ (x : ℕ). j < x) is h))
 
-  pub walk_below : {v : ℕ} {r : Found} → Walks link f v r → (i : ℕ) → r ≡ At i → i < v
+  pub walk_below : {v : ℕ} {r : StdOption ℕ} → Walks link f v r → (i : ℕ) → r ≡ Some i → i < v
   walk_below ended i e = absurd (let z : ◌≡◌ {A = ℕ} 0 1 = cc in omega arith)
   walk_below (here {j} q) i e = let z : j ≡ i = cc in omega arith
   walk_below (further {j} q h w) i e = omega (arith, walk_below w i e, h)
@@ -62,9 +61,9 @@ start_same bucket' e s = record {
 }
 
 -- what a walk tells: a number of which the test holds, or that it holds of none
-abbrev pub Told : ℕ → (ℕ → Bool) → Found → Type 0
-Told m f (At i) = (i < m) × (f i ≡ true)
-Told m f Nothing = (j : ℕ) → j < m → f j ≡ true → ⊥
+abbrev pub Told : ℕ → (ℕ → Bool) → StdOption ℕ → Type 0
+Told m f (Some i) = (i < m) × (f i ≡ true)
+Told m f None = (j : ℕ) → j < m → f j ≡ true → ⊥
 
 module _ {head link bucket : ℕ → ℕ} {m : ℕ} (c : Linked head link bucket m) where
   module _ (b i : ℕ) (e : i ≡ head b) where
@@ -91,7 +90,7 @@ module _ {head link bucket : ℕ → ℕ} {m : ℕ} (c : Linked head link bucket
 
   -- a walk from there
   module _ (f : ℕ → Bool) (b : ℕ) (in_bucket_lem : (j : ℕ) → j < m → f j ≡ true → bucket j ≡ b) where
-    pub walk_tells : {v : ℕ} {r : Found} → Walks link f v r → ((j : ℕ) → v ≡ suc j → (j < m) × (bucket j ≡ b)) → ((j : ℕ) → j < m → f j ≡ true → j < v) → Told m f r
+    pub walk_tells : {v : ℕ} {r : StdOption ℕ} → Walks link f v r → ((j : ℕ) → v ≡ suc j → (j < m) × (bucket j ≡ b)) → ((j : ℕ) → j < m → f j ≡ true → j < v) → Told m f r
     walk_tells ended at all = λ j h q. absurd (omega (arith, all j h q))
     walk_tells (here {j} q) at all = ((at j refl).0, q)
     walk_tells (further {j} q low w) at all =

@@ -14,8 +14,7 @@ use Rattle.laws.specs.All.{All}
 use Rattle.laws.proofs.Tests.{and_left, and_right}
 use Rattle.records.specs.Words.{byte_at, word_at}
 use Rattle.records.proofs.Apart.{word_back}
-use Rattle.records.specs.declared.words.Found.{Found}
-use Rattle.records.specs.declared.words.Found.TheVariants.{At, Nothing}
+use Rattle.std.specs.Prelude.{Option as StdOption, Some, None}
 use Rattle.conversion.specs.Ir.{LabelName, FloatEntry, position, same_label, same_float}
 use Rattle.conversion.specs.Written.{bytes_of, word, wide, bool_number, encode_label, encode_float, all_labels}
 use Rattle.ir.specs.declared.structs.Counters.{Counters}
@@ -177,11 +176,11 @@ module _ (texts : NumberedTexts) (t : TablesSoFar) (k : Counters) (l : List ℕ)
     abbrev float_test : ℕ → Bool
     float_test = float_words_at l (204 * k.records) (e.bits % 4294967296) (e.bits / 4294967296) (bool_number e.short)
 
-    abbrev from-float_head : Found → Type 0
+    abbrev from-float_head : StdOption ℕ → Type 0
     from-float_head r = Walks (λ j. word_at l (268 * k.records + 4 * j)) float_test (float_head l k.records k.floats (float_entry_bucket k.records e)) r
 
-    pub float_here : (i : ℕ) → from-float_head (At i) → position (same_float e) t.state.floats ≡ some i
+    pub float_here : (i : ℕ) → from-float_head (Some i) → position (same_float e) t.state.floats ≡ some i
     float_here i w = entry-there h.float_links_hold (floats_alike k.records) e float_test (float_same e) (float_start (float_entry_bucket k.records e)) i w
 
-    pub float_gone : from-float_head Nothing → position (same_float e) t.state.floats ≡ none
+    pub float_gone : from-float_head None → position (same_float e) t.state.floats ≡ none
     float_gone w = entry_missing h.float_links_hold (floats_alike k.records) e float_test (float_same e) (float_start (float_entry_bucket k.records e)) w

@@ -11,8 +11,7 @@ use lib.Seq.{get_or-append-add}
 use borrow.Author.Count.{below_more}
 use borrow.Author.Tests.{lt-ltb, le-ltb}
 use Rattle.conversion.specs.Ir.{position}
-use Rattle.records.specs.declared.words.Found.{Found}
-use Rattle.records.specs.declared.words.Found.TheVariants.{At, Nothing}
+use Rattle.std.specs.Prelude.{Option as StdOption, Some, None}
 use Rattle.ir.specs.declared.structs.Counters.{Counters}
 use Rattle.ir.specs.Search.{found_of, label_words_at, label_is}
 
@@ -91,11 +90,11 @@ position_nowhere p d xs never = go (position p xs) refl
     go (some j) e = let hit = position_hit p d xs j e in absurd (never j hit.below hit.holds)
 
 -- the answer at a hit, and at none
-pub found_some : (o : Option ℕ) (r : ℕ) (a : Found) → a ≡ found_of o → a ≡ At r → o ≡ some r
+pub found_some : (o : Option ℕ) (r : ℕ) (a : StdOption ℕ) → a ≡ found_of o → a ≡ Some r → o ≡ some r
 found_some none r a e q = absurd (let z : ◌≡◌ {A = ℕ} 0 1 = cc in omega arith)
 found_some (some j) r a e q = let z : j ≡ r = cc in ap some z
 
-pub found_none : (o : Option ℕ) (a : Found) → a ≡ found_of o → a ≡ Nothing → o ≡ none
+pub found_none : (o : Option ℕ) (a : StdOption ℕ) → a ≡ found_of o → a ≡ None → o ≡ none
 found_none none a e q = refl
 found_none (some j) a e q = absurd (let z : ◌≡◌ {A = ℕ} 0 1 = cc in omega arith)
 

@@ -7,13 +7,12 @@ use Rattle.records.specs.Words.{word_at, second_word, third_word}
 use Rattle.conversion.specs.Written.{label_bytes, float_bytes}
 use Rattle.ir.specs.declared.structs.Counters.{Counters}
 use Rattle.ir.specs.Arena.{label_entry_at, float_entry_at, float_head_at, string_number_at, float_bucket}
-use Rattle.records.specs.declared.words.Found.{Found}
-use Rattle.records.specs.declared.words.Found.TheVariants.{At, Nothing}
+use Rattle.std.specs.Prelude.{Option as StdOption, Some, None}
 
 -- what is found, as the code says it
-abbrev pub found_of : Option ℕ → Found
-found_of none = Nothing
-found_of (some i) = At i
+abbrev pub found_of : Option ℕ → StdOption ℕ
+found_of none = None
+found_of (some i) = Some i
 
 -- label j of those from byte `at` on is the two words a and b
 unfoldable pub label_words_at : List ℕ → ℕ → ℕ → ℕ → ℕ → Bool
@@ -35,11 +34,11 @@ float_words_at l at a b c j =
 
 -- a walk down a chain, from one past a number on, and what it finds: the first number of which f holds. A link is one past the next number, or 0 at the end; one that
 -- does not lead lower ends the walk
-pub data Walks (link : ℕ → ℕ) (f : ℕ → Bool) : ℕ → Found → Type 0 where
-  ended : Walks link f 0 Nothing
-  here : {j : ℕ} → f j ≡ true → Walks link f (suc j) (At j)
-  further : {j : ℕ} {r : Found} → f j ≡ false → link j ≤ j → Walks link f (link j) r → Walks link f (suc j) r
-  astray : {j : ℕ} → f j ≡ false → j < link j → Walks link f (suc j) Nothing
+pub data Walks (link : ℕ → ℕ) (f : ℕ → Bool) : ℕ → StdOption ℕ → Type 0 where
+  ended : Walks link f 0 None
+  here : {j : ℕ} → f j ≡ true → Walks link f (suc j) (Some j)
+  further : {j : ℕ} {r : StdOption ℕ} → f j ≡ false → link j ≤ j → Walks link f (link j) r → Walks link f (suc j) r
+  astray : {j : ℕ} → f j ≡ false → j < link j → Walks link f (suc j) None
 
 -- the bucket, one of n, of entry j of the floats
 unfoldable pub float_bucket_at : List ℕ → ℕ → ℕ → ℕ

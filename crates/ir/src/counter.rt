@@ -19,12 +19,13 @@ fn add_var(arena: &mut [u8], k: Counters, ty: u32) -> NewVariable
 {
     let v = k.variables;
     let var = VarId((v - k.variables_before) as u32, ty);
-    let mut next = k;
-    next.variables = v + 1;
     put_word(arena, VARIABLES * k.records + VARIABLE_BYTES * v, ty);
     NewVariable {
         var,
-        counters: next,
+        counters: Counters {
+            variables: v + 1,
+            ..k
+        },
     }
 }
 
@@ -44,13 +45,11 @@ fn add_label(arena: &mut [u8], k: Counters, kind: u32, opener: u32) -> LabelNumb
     let v = k.labels;
     let number = (v - k.labels_before) as u32;
     let slot = label_slot(k.records, kind, opener);
-    let mut next = k;
-    next.labels = v + 1;
     put_word(arena, slot, number);
     put_pair(arena, LABELS * k.records + LABEL_BYTES * v, kind, opener);
     LabelNumber {
         label: Label(number),
-        counters: next,
+        counters: Counters { labels: v + 1, ..k },
     }
 }
 

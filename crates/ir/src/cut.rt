@@ -11,29 +11,12 @@ use crate::arena::{
 };
 use crate::structs::Counters;
 
-// `len` bytes from byte `from` on, to the start of `out`.
-fn copy(src: &[u8], from: usize, len: usize, out: &mut [u8])
-    requires { (from + len ≤ length src.now) × (len ≤ length out.old) }
-    ensures { out.new ≡ part src.now from len ++ drop len out.old }
-{
-    let mut i = 0;
-    while i < len {
-        out[i] = src[from + i];
-        i += 1;
-    }
-}
-
 // Zero from byte `at` on.
 fn clear_from(out: &mut [u8], at: usize)
     requires { at ≤ length out.old }
     ensures { out.new ≡ filled (part out.old 0 at) (length out.old) }
 {
-    let rest = out.len() - at;
-    let mut i = 0;
-    while i < rest {
-        out[at + i] = 0;
-        i += 1;
-    }
+    out[at..].fill(0);
 }
 
 // These bytes alone.
@@ -41,7 +24,7 @@ fn cut(src: &[u8], from: usize, len: usize, out: &mut [u8])
     requires { (from + len ≤ length src.now) × (len ≤ length out.old) }
     ensures { out.new ≡ filled (part src.now from len) (length out.new) }
 {
-    copy(src, from, len, out);
+    out[..len].copy_from_slice(&src[from..from + len]);
     clear_from(out, len);
 }
 

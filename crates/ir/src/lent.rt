@@ -61,8 +61,7 @@ pub fn new_var(arena: &mut [u8], k: &mut [usize], ty: u32) -> VarId
 {
     let c = counters_of(k);
     let made = structs::new_var(arena, c, ty);
-    let next = made.counters;
-    k[COUNT_VARIABLES] = next.variables;
+    k[COUNT_VARIABLES] = made.counters.variables;
     made.var
 }
 
@@ -73,8 +72,7 @@ pub fn label_id(arena: &mut [u8], k: &mut [usize], kind: u32, opener: u32) -> La
 {
     let c = counters_of(k);
     let found = structs::label_id(arena, c, kind, opener);
-    let next = found.counters;
-    k[COUNT_LABELS] = next.labels;
+    k[COUNT_LABELS] = found.counters.labels;
     found.label
 }
 
@@ -85,8 +83,7 @@ pub fn string_id(arena: &mut [u8], k: &mut [usize], o: usize, offset: u32, len: 
 {
     let c = counters_of(k);
     let found = pool::string_id(arena, c, o, offset, len);
-    let next = found.counters;
-    k[COUNT_STRINGS] = next.strings;
+    k[COUNT_STRINGS] = found.counters.strings;
     found.number
 }
 
@@ -97,8 +94,7 @@ pub fn float_id(arena: &mut [u8], k: &mut [usize], f: FloatBits) -> u32
 {
     let c = counters_of(k);
     let found = pool::float_id(arena, c, f);
-    let next = found.counters;
-    k[COUNT_FLOATS] = next.floats;
+    k[COUNT_FLOATS] = found.counters.floats;
     found.number
 }
 

@@ -16,8 +16,7 @@ use crate::floats::{FloatBits, entry_bits};
 use crate::search::walk_float;
 use crate::structs::Counters;
 use records::words::{
-    Found, Four, SECOND_WORD, THIRD_WORD, high, index, load, low, mark, put_four, put_pair,
-    put_word,
+    Four, SECOND_WORD, THIRD_WORD, high, index, load, low, mark, put_four, put_pair, put_word,
 };
 
 // An entry's number, and the counters that count it.
@@ -45,8 +44,6 @@ fn add_string(arena: &mut [u8], k: Counters, o: usize, offset: u32, len: u32) ->
 {
     let v = k.strings;
     let number = v as u32;
-    let mut next = k;
-    next.strings = v + 1;
     put_pair(arena, STRINGS * k.records + STRING_BYTES * v, offset, len);
     put_word(
         arena,
@@ -56,7 +53,10 @@ fn add_string(arena: &mut [u8], k: Counters, o: usize, offset: u32, len: u32) ->
     put_word(arena, STRING_SLOTS * k.records + SEARCH_BYTES * o, number);
     PoolNumber {
         number,
-        counters: next,
+        counters: Counters {
+            strings: v + 1,
+            ..k
+        },
     }
 }
 
@@ -125,8 +125,6 @@ fn add_float(arena: &mut [u8], k: Counters, w: Four, b: usize, last: usize) -> P
 {
     let v = k.floats;
     let number = v as u32;
-    let mut next = k;
-    next.floats = v + 1;
     put_four(arena, FLOATS * k.records + FLOAT_BYTES * v, w);
     put_link(
         arena,
@@ -137,7 +135,7 @@ fn add_float(arena: &mut [u8], k: Counters, w: Four, b: usize, last: usize) -> P
     );
     PoolNumber {
         number,
-        counters: next,
+        counters: Counters { floats: v + 1, ..k },
     }
 }
 
@@ -151,11 +149,11 @@ pub fn float_id(arena: &mut [u8], k: Counters, f: FloatBits) -> PoolNumber
     let b = float_bucket(k.records, w);
     let last = float_head(arena, k, b);
     match walk_float(arena, FLOATS * k.records, FLOAT_LINKS * k.records, last, w) {
-        Found::At(i) => PoolNumber {
+        Some(i) => PoolNumber {
             number: i as u32,
             counters: k,
         },
-        Found::Nothing => add_float(arena, k, w, b, last),
+        None => add_float(arena, k, w, b, last),
     }
 }
 

@@ -6,7 +6,7 @@ ghost use Rattle.ir.specs.Arena.{search_bytes};
 ghost use Rattle.ir.specs.Search.{label_words_at, float_words_at, Walks};
 
 use crate::arena::{FLOAT_BYTES, LABEL_BYTES, SEARCH_BYTES};
-use records::words::{Found, Four, SECOND_WORD, THIRD_WORD, index, load};
+use records::words::{Four, SECOND_WORD, THIRD_WORD, index, load};
 
 // Whether label j of those from byte `at` on is a and b.
 pub fn is_label_at(s: &[u8], at: usize, j: usize, a: u32, b: u32) -> bool
@@ -31,7 +31,7 @@ fn is_float_at(s: &[u8], at: usize, j: usize, w: Four) -> bool
 
 // The first float whose first three words are w's, of those that a chain leads through from v on, which is one past a float's number, or 0. So is the word
 // at each float's link, and one that does not lead lower ends the walk.
-pub fn walk_float(s: &[u8], at: usize, links: usize, v: usize, w: Four) -> Found
+pub fn walk_float(s: &[u8], at: usize, links: usize, v: usize, w: Four) -> Option<usize>
     requires { (at + float_bytes * v ≤ length s.now) × (links + search_bytes * v ≤ length s.now) }
     ensures { Walks (λ j. word_at s.now (links + search_bytes * j)) (float_words_at s.now at w.0 w.1 w.2) v result }
 {
@@ -39,13 +39,13 @@ pub fn walk_float(s: &[u8], at: usize, links: usize, v: usize, w: Four) -> Found
     while 0 < u {
         let j = u - 1;
         if is_float_at(s, at, j, w) {
-            return Found::At(j);
+            return Some(j);
         }
         let next = index(load(s, links + SEARCH_BYTES * j));
         if j < next {
-            return Found::Nothing;
+            return None;
         }
         u = next;
     }
-    Found::Nothing
+    None
 }

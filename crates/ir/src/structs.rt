@@ -143,17 +143,12 @@ fn tag_of(o: Operand) -> u8
 {
     match o {
         Operand::Var(_) => TAG_VARIABLE,
-        Operand::Int(_, short, unsigned) => {
-            if short {
-                if unsigned {
-                    TAG_UNSIGNED_SHORT
-                } else {
-                    TAG_INT_SHORT
-                }
-            } else {
-                if unsigned { TAG_UNSIGNED } else { TAG_INT }
-            }
-        }
+        Operand::Int(_, short, unsigned) => match (short, unsigned) {
+            (true, true) => TAG_UNSIGNED_SHORT,
+            (true, false) => TAG_INT_SHORT,
+            (false, true) => TAG_UNSIGNED,
+            (false, false) => TAG_INT,
+        },
         Operand::Float(_) => TAG_FLOAT,
         Operand::Bool(_) => TAG_BOOL,
         Operand::DataAddress(_) => TAG_STRING,
@@ -168,7 +163,7 @@ fn value_of(o: Operand) -> u64
         Operand::Var(v) => v.0 as u64,
         Operand::Int(bits, _, _) => bits,
         Operand::Float(i) => i as u64,
-        Operand::Bool(b) => { if b { 1 } else { 0 } }
+        Operand::Bool(b) => b as u64,
         Operand::DataAddress(i) => i as u64,
         Operand::Null => 0,
     }
@@ -418,12 +413,13 @@ pub fn add_function(arena: &mut [u8], k: Counters, owner: u32, body: bool) -> Co
         k.labels_before as u32,
         (k.labels - k.labels_before) as u32,
     );
-    let mut next = k;
-    next.functions = n + 1;
-    next.instructions_before = k.instructions;
-    next.variables_before = k.variables;
-    next.labels_before = k.labels;
     put_four(arena, at, a);
     put_four(arena, back, b);
-    next
+    Counters {
+        functions: n + 1,
+        instructions_before: k.instructions,
+        variables_before: k.variables,
+        labels_before: k.labels,
+        ..k
+    }
 }

@@ -3,13 +3,12 @@
 use mathlib.Core.Path.{◌≡◌, refl, sym, ap, ◌∙◌}
 use Prim.Native.Nat.{ℕ, zero, suc, ◌*◌, ◌/◌, ◌%◌, ◌≤◌, ◌<◌}
 use mathlib.Core.Bool.{Bool, true, false, not, ◌&&◌, false≢true}
-use mathlib.Core.List.{List, ◌++◌, append-nil}
+use mathlib.Core.List.{List}
 use mathlib.Core.Option.{Option, none as nothing, some}
 use native.Mathlib.Omega.{arith}
 use Rattle.laws.proofs.Tests.{tested, and_left, and_right}
 use lib.Dec.{eqb, leb, ltb}
-use lib.ListN.{length, drop, replicate, length-replicate}
-use lib.Seq.{drop-length}
+use lib.ListN.{length, replicate, length-replicate}
 use borrow.Author.Tests.{ne_eqb, eqb-true, leb-true, leb-false, le-leb, lt-leb}
 use Rattle.laws.specs.Fix.{pick}
 use Rattle.laws.specs.Below.{or_else, lowest}
@@ -18,11 +17,10 @@ use Rattle.records.specs.Rules.{record_ok}
 use Rattle.records.specs.Depth.{depth}
 use Rattle.records.specs.declared.convert_error.ConvertErrorKind.TheVariants.{BadTree, TooDeep, ShortBuffer}
 use Rattle.judge.specs.declared.Lengths.{Lengths}
-use Rattle.judge.specs.declared.Judged.{Judged}
-use Rattle.judge.specs.declared.Judged.TheVariants.{Refused}
+use Rattle.std.specs.Prelude.{Err}
 use Rattle.judge.specs.Inner.{Lowest}
 use Rattle.judge.specs.Keeps.{writes_nothing, JudgeKeeps, placed, unplaced}
-use Rattle.judge.specs.Judge.{lengths_ok, buffers_ok, Buffers, buffers, lengths_of, lowest_fault, lowest_deep, at_lengths, at_buffers, at_records, at_nesting, at_conversion, Verdict, RefusedBy, Passed, refused_by, at_lowest, records_verdict, verdict, judged_by, judged, judged_in, verdict_in, refusal_leaves, output_after, scratch_after, verdict_leaves, judge_leaves, cleared}
+use Rattle.judge.specs.Judge.{lengths_ok, buffers_ok, Buffers, buffers, lengths_of, lowest_fault, lowest_deep, at_lengths, at_buffers, at_records, at_nesting, at_conversion, Verdict, RefusedBy, Passed, refused_by, at_lowest, records_verdict, verdict, Judged, judged_by, judged, judged_in, verdict_in, refusal_leaves, output_after, scratch_after, verdict_leaves, judge_leaves, cleared}
 use Rattle.laws.proofs.BelowLaws.{lowest-none, lowest_some}
 
 pub records-told : (tree : List ℕ) (n : ℕ) → n * 32 ≡ length tree → records tree ≡ n
@@ -128,10 +126,6 @@ enough n l scratch e =
       scratch = leb-true _ _ (and_right six (leb (72 * n) scratch) e);
     }
 
--- a list filled to its end is cleared
-pub filled : (n : ℕ) (d : List ℕ) → n ≡ length d → replicate n 0 ++ drop n d ≡ cleared d
-filled n d e = rw (e, drop-length d, append-nil) refl
-
 pub cleared-length : (d e : List ℕ) → e ≡ cleared d → length e ≡ length d
 cleared-length d e q = ap length q ∙ length-replicate (length d) 0
 
@@ -157,12 +151,12 @@ module _ (tree text : List ℕ) (l : Lengths) (scratch : List ℕ) (ok : Bool) (
   as_found : (v : Verdict) → JudgeKeeps v scratch scratch
   as_found v = record { same = refl; kept = λ _. refl }
 
-  pub judged-length : (answer : Judged) → ok ≡ false → answer ≡ Refused (record { kind = BadTree; place = none }) → Judges answer scratch
+  pub judged-length : (answer : Judged) → ok ≡ false → answer ≡ Err (record { kind = BadTree; place = none }) → Judges answer scratch
   unfolding verdict pick refused_by judged_by
   judged-length answer e a = judges answer scratch (refused_by at_lengths BadTree none) (rw (sym ok_is ∙ e) refl) a (as_found _)
 
   module _ (yes : ok ≡ true) (room : Bool) (roomIs : room ≡ buffers_ok (records tree) l (length scratch)) where
-    pub judged_buffer : (answer : Judged) → room ≡ false → answer ≡ Refused (record { kind = ShortBuffer; place = none }) → Judges answer scratch
+    pub judged_buffer : (answer : Judged) → room ≡ false → answer ≡ Err (record { kind = ShortBuffer; place = none }) → Judges answer scratch
     unfolding verdict pick refused_by judged_by
     judged_buffer answer e a = judges answer scratch (refused_by at_buffers ShortBuffer none) (rw (sym ok_is ∙ yes, sym roomIs ∙ e) refl) a (as_found _)
 

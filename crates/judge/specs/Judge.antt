@@ -1,6 +1,6 @@
 -- Document 01's table, rows 'lengths', 'buffers', 'records' and 'nesting': which answer a tree gets before it is converted, and
 -- what each lent buffer holds afterwards. Assumes nothing: these are definitions.
-use Rattle.std.specs.Prelude.{ℕ, ◌*◌, ◌%◌, Bool, not, ◌&&◌, List, eqb, leb, ltb, length, replicate}
+use Rattle.std.specs.Prelude.{ℕ, ◌*◌, ◌%◌, Bool, not, ◌&&◌, List, eqb, leb, ltb, length, replicate, Result, Ok, Err}
 use Rattle.std.proofs.Math.Option.{Option, none as nothing, some}
 use Rattle.laws.specs.Fix.{pick}
 use Rattle.laws.specs.Below.{lowest}
@@ -11,8 +11,6 @@ use Rattle.records.specs.declared.convert_error.ConvertErrorKind.{ConvertErrorKi
 use Rattle.records.specs.declared.convert_error.ConvertErrorKind.TheVariants.{BadTree, TooDeep, ShortBuffer}
 use Rattle.records.specs.declared.convert_error.ConvertError.{ConvertError}
 use Rattle.judge.specs.declared.Lengths.{Lengths}
-use Rattle.judge.specs.declared.Judged.{Judged}
-use Rattle.judge.specs.declared.Judged.TheVariants.{Accepted, Refused}
 
 -- 'tree not a multiple of 32, under 12 or over 16,384 records'
 abbrev pub fewest_records : ℕ
@@ -118,10 +116,13 @@ verdict tree text l scratch =
     (pick (not (buffers_ok (records tree) l scratch)) (refused_by at_buffers ShortBuffer none)
     (records_verdict tree text))
 
--- what the judge answers
+-- what the judge answers: a tree is accepted, or refused with an error
+abbrev pub Judged : Type 0
+Judged = Result (Unit {0}) ConvertError
+
 unfoldable pub judged_by : Verdict → Judged
-judged_by (RefusedBy row e) = Refused e
-judged_by Passed = Accepted
+judged_by (RefusedBy row e) = Err e
+judged_by Passed = Ok tt
 
 unfoldable pub judged : List ℕ → List ℕ → Lengths → ℕ → Judged
 unfolding judged_by verdict

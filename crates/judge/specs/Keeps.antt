@@ -1,9 +1,7 @@
 -- What judging alone leaves of scratch, and which answers have a place. Assumes nothing: these are definitions.
-use Rattle.std.specs.Prelude.{◌≡◌, ℕ, Bool, true, false, not, List, eqb, length}
+use Rattle.std.specs.Prelude.{◌≡◌, ℕ, Bool, true, false, not, List, eqb, length, Ok, Err}
 use Rattle.records.specs.Words.{none}
-use Rattle.judge.specs.declared.Judged.{Judged}
-use Rattle.judge.specs.declared.Judged.TheVariants.{Accepted, Refused}
-use Rattle.judge.specs.Judge.{at_lengths, at_buffers, at_records, at_nesting, at_conversion, Verdict, RefusedBy, Passed}
+use Rattle.judge.specs.Judge.{at_lengths, at_buffers, at_records, at_nesting, at_conversion, Verdict, RefusedBy, Passed, Judged}
 
 -- 'Rows one and two write nothing'
 unfoldable pub writes_nothing : Verdict → Bool
@@ -21,10 +19,10 @@ pub record JudgeKeeps (v : Verdict) (before after : List ℕ) : Type 0 where
 
 -- the answer is a refusal with a place
 unfoldable pub placed : Judged → Bool
-placed Accepted = false
-placed (Refused e) = not (eqb e.place none)
+placed (Ok _) = false
+placed (Err e) = not (eqb e.place none)
 
 -- the answer is a refusal without a place
 unfoldable pub unplaced : Judged → Bool
-unplaced Accepted = false
-unplaced (Refused e) = eqb e.place none
+unplaced (Ok _) = false
+unplaced (Err e) = eqb e.place none

@@ -39,10 +39,8 @@ fn names_long(tree: &[u8], types: usize) -> usize
     ensures { result ≤ none * types }
 {
     let mut long = 0;
-    let mut r = 0;
-    while r < types {
+    for r in 0..types {
         long += name_long(tree, r);
-        r += 1;
     }
     long
 }
@@ -104,10 +102,9 @@ fn may_have_alike(
     ensures { result ≡ false → like_earlier tree.now text.now r ≡ false }
 {
     let mut at = index(head);
-    let mut left = FAR;
-    while at > 0 {
-        if left == 0 {
-            return true;
+    for _ in 0..FAR {
+        if at == 0 {
+            return false;
         }
         let k = at - 1;
         let e = CHAIN_HEAD_BYTES * types + CHAIN_ENTRY_BYTES * k;
@@ -115,10 +112,9 @@ fn may_have_alike(
         if is_alike(tree, text, k, r, digest, d) {
             return true;
         }
-        left -= 1;
         at = index(load(scratch, e + SECOND_WORD));
     }
-    false
+    at > 0
 }
 
 // The same, and r is entered with its digest. The text's samples stand behind the chains.
@@ -151,12 +147,10 @@ fn are_apart(tree: &[u8], text: &[u8], types: usize, scratch: &mut [u8], stride:
     ensures scratch_len_unchanged { length scratch.new ≡ length scratch.old }
 {
     clear_heads(scratch, CHAIN_HEAD_BYTES * types);
-    let mut r = 0;
-    while r < types {
+    for r in 0..types {
         if may_be_again(tree, text, types, scratch, stride, r) {
             return false;
         }
-        r += 1;
     }
     true
 }
@@ -166,10 +160,8 @@ fn collect_types(scratch: &mut [u8], types: usize)
     requires { (types ≤ most_records) × (sort_entry_bytes * types ≤ length scratch.old) }
     ensures { TypesListed types scratch.new × (length scratch.new ≡ length scratch.old) }
 {
-    let mut r = 0;
-    while r < types {
+    for r in 0..types {
         put_pair(scratch, SORT_ENTRY_BYTES * r, r as u32, 0);
-        r += 1;
     }
 }
 

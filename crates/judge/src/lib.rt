@@ -4,7 +4,7 @@
 ghost use Rattle.std.specs.Prelude.{◌≡◌, ◌*◌, ◌≤◌, [], length};
 ghost use Rattle.records.specs.Layout.{scratch_each};
 ghost use Rattle.records.specs.Words.{record_bytes, most_records};
-ghost use Rattle.judge.specs.Keeps.{JudgeKeeps, placed, unplaced};
+ghost use Rattle.judge.specs.Keeps.{JudgeKeeps, placed};
 ghost use Rattle.judge.specs.Judge.{lengths_ok, buffers_ok, buffers, lengths_of, records_verdict, verdict, judged_by, judged, judged_in, scratch_after, judge_leaves, cleared};
 
 use records::convert_error::{ConvertError, ConvertErrorKind};
@@ -43,27 +43,17 @@ pub struct Lengths {
     pub floats: usize,
 }
 
-#[derive(Clone, Copy)]
-pub enum Judged {
-    Accepted,
-    Refused(ConvertError),
-}
-
-pub(crate) fn refuse_tree(kind: ConvertErrorKind, place: u32) -> Judged
-    ensures { result ≡ Judged.Refused (record { kind = kind; place = place }) }
+pub(crate) fn refuse_tree(kind: ConvertErrorKind, place: u32) -> Result<(), ConvertError>
+    ensures { result ≡ Err (record { kind = kind; place = place }) }
 {
-    Judged::Refused(ConvertError { kind, place })
+    Err(ConvertError { kind, place })
 }
 
 // Zero in every byte.
 pub fn clear(buffer: &mut [u8])
     ensures { buffer.new ≡ cleared buffer.old }
 {
-    let mut i = 0;
-    while i < buffer.len() {
-        buffer[i] = 0;
-        i += 1;
-    }
+    buffer.fill(0);
 }
 
 // Row 'lengths'.
@@ -89,7 +79,7 @@ fn buffers_ok(n: usize, l: Lengths, scratch: usize) -> bool
 }
 
 // Rows 'records' and 'nesting'; the bytes of scratch are the pass's own.
-fn judge_records(tree: &[u8], text: &[u8], n: usize, scratch: &mut [u8]) -> Judged
+fn judge_records(tree: &[u8], text: &[u8], n: usize, scratch: &mut [u8]) -> Result<(), ConvertError>
     requires { (n * record_bytes ≡ length tree.now) × (n ≤ most_records) × (scratch_each * n ≤ length scratch.old) }
     ensures { (result ≡ judged_by (records_verdict tree.now text.now)) × (length scratch.new ≡ length scratch.old) }
 {
@@ -102,11 +92,16 @@ fn judge_records(tree: &[u8], text: &[u8], n: usize, scratch: &mut [u8]) -> Judg
     if deep < n {
         return refuse_tree(ConvertErrorKind::TooDeep, deep as u32);
     }
-    Judged::Accepted
+    Ok(())
 }
 
 // Judges a tree, given how long the outputs are. Rows one and two leave scratch as found; past them its bytes are the judge's own.
-pub fn judge_rows(tree: &[u8], text: &[u8], l: Lengths, scratch: &mut [u8]) -> Judged
+pub fn judge_rows(
+    tree: &[u8],
+    text: &[u8],
+    l: Lengths,
+    scratch: &mut [u8],
+) -> Result<(), ConvertError>
     ensures value { result ≡ judged tree.now text.now l (length scratch.old) }
     ensures judge_keeps { JudgeKeeps (verdict tree.now text.now l (length scratch.old)) scratch.old scratch.new }
 {
@@ -123,41 +118,27 @@ pub fn judge_rows(tree: &[u8], text: &[u8], l: Lengths, scratch: &mut [u8]) -> J
 }
 
 // The answer is a refusal with a place. Of the rows judged here one and two have none, the others have one.
-pub fn has_place(answer: Judged) -> bool
+pub fn has_place(answer: Result<(), ConvertError>) -> bool
     ensures { result ≡ placed answer }
 {
-    match answer {
-        Judged::Accepted => false,
-        Judged::Refused(e) => {
-            let place = e.place;
-            place != NONE
-        }
-    }
-}
-
-// The answer is a refusal without a place: rows one and two.
-fn has_no_place(answer: Judged) -> bool
-    ensures { result ≡ unplaced answer }
-{
-    match answer {
-        Judged::Accepted => false,
-        Judged::Refused(e) => {
-            let place = e.place;
-            place == NONE
-        }
-    }
+    answer.is_err_and(|e| e.place != NONE)
 }
 
 // The core: judges a tree, given how long the outputs are. Rows one and two leave scratch as found, the others leave it zero.
-pub fn judge_tree(tree: &[u8], text: &[u8], l: Lengths, scratch: &mut [u8]) -> Judged
+pub fn judge_tree(
+    tree: &[u8],
+    text: &[u8],
+    l: Lengths,
+    scratch: &mut [u8],
+) -> Result<(), ConvertError>
     ensures value { result ≡ judged tree.now text.now l (length scratch.old) }
     ensures scratch_after { scratch.new ≡ scratch_after (verdict tree.now text.now l (length scratch.old)) scratch.old }
 {
     let answer = judge_rows(tree, text, l, scratch);
-    if has_no_place(answer) {
-        return answer;
+    let nothing_written = answer.is_err_and(|e| e.place == NONE);
+    if !nothing_written {
+        clear(scratch);
     }
-    clear(scratch);
     answer
 }
 
@@ -218,7 +199,7 @@ pub fn judge(
     strings: &mut [u8],
     floats: &mut [u8],
     scratch: &mut [u8],
-) -> Judged
+) -> Result<(), ConvertError>
     ensures value { result ≡ judged_in tree.now text.now (buffers instructions.old variables.old labels.old functions.old strings.old floats.old scratch.old) }
     ensures scratch_after { buffers instructions.new variables.new labels.new functions.new strings.new floats.new scratch.new ≡ judge_leaves tree.now text.now (buffers instructions.old variables.old labels.old functions.old strings.old floats.old scratch.old) }
 {
@@ -226,7 +207,6 @@ pub fn judge(
     let answer = judge_tree(tree, text, l, scratch);
     if has_place(answer) {
         clear_outputs(instructions, variables, labels, functions, strings, floats);
-        return answer;
     }
     answer
 }

@@ -248,15 +248,13 @@ fn pass(tree: &[u8], bytes: usize, n: usize, types: usize, known: &mut [u8]) -> 
 {
     let mut fault = n;
     let mut deep = n;
-    let mut r = 0;
     let rules = RULES;
-    while r < n {
+    for r in 0..n {
         let told = take_record(tree, bytes, r, types, known, &rules);
         let ok = told.ok;
         let low = told.depth <= DEEPEST;
         fault = next_lowest(fault, r, ok);
         deep = next_lowest(deep, r, low);
-        r += 1;
     }
     Lowests { fault, deep }
 }

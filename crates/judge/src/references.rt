@@ -59,13 +59,11 @@ fn some_miscounted(n: usize, known: &[u8]) -> bool
     ensures { result ≡ any_below n (miscounted_in known.now) }
 {
     let mut some = false;
-    let mut r = 0;
-    while r < n {
+    for r in 0..n {
         let slot = load(known, r * KNOWN_BYTES + KNOWN_BYTES);
         let k = slot / ONE_KIND;
         let count = slot / ONE_COUNT % BYTE_VALUES;
-        some = some | !((k == KIND_TYPE as u32) | (k == KIND_FUNCTION as u32) | (count == 1));
-        r += 1;
+        some |= !((k == KIND_TYPE as u32) | (k == KIND_FUNCTION as u32) | (count == 1));
     }
     some
 }
@@ -78,14 +76,12 @@ pub(crate) fn lowest_miscounted(tree: &[u8], n: usize, known: &[u8]) -> usize
     if !some_miscounted(n, known) {
         return n;
     }
-    let mut r = 0;
-    while r < n {
+    for r in 0..n {
         let k = kind(tree, r);
         let count = known[r * KNOWN_BYTES + NEXT_COUNT];
         if !((k == KIND_TYPE) | (k == KIND_FUNCTION) | (count == 1)) {
             return r;
         }
-        r += 1;
     }
     n
 }

@@ -61,12 +61,10 @@ pub(crate) fn leading_types(tree: &[u8], n: usize) -> usize
     requires { n * record_bytes ≡ length tree.now }
     ensures { TypesLead tree.now n result }
 {
-    let mut i = 0;
-    while i < n {
+    for i in 0..n {
         if kind(tree, i) != KIND_TYPE {
             return i;
         }
-        i += 1;
     }
     n
 }

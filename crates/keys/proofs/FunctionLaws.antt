@@ -18,7 +18,7 @@ use Rattle.syntax.specs.Syntax.{Text}
 use Rattle.syntax.specs.Decode.{node, functions_in, functions_below, program, text_of}
 use Rattle.syntax.specs.Places.{IsKind, FunctionAt, function_of}
 use Rattle.syntax.proofs.Records.{node-function, name_record, mangled_record, function-name, function_mangled}
-use Rattle.records.specs.declared.words.Found.{Found}
+use Rattle.std.specs.Prelude.{Option as StdOption, Some}
 use Rattle.keys.specs.declared.parts.Part.{Part}
 use Rattle.keys.specs.Parts.{PartIs}
 use Rattle.keys.specs.Keys.{records_below, function_places, functions_of, FunctionFound, a_function, none_found}
@@ -126,6 +126,6 @@ module _ (tree text : List ℕ) (good : Good tree text) (f : ℕ) (at : Function
   mangled_part p q = part (word_of tree f B) (function_of tree text f).mangled_name p (mangled_record tree text good f at) (function_mangled tree text good f at) q
 
 -- what was found is a function's record
-pub found-function : (tree : List ℕ) (r : Found) (f : ℕ) → FunctionFound tree r → r ≡ Found.At f → FunctionAt tree f
+pub found-function : (tree : List ℕ) (r : StdOption ℕ) (f : ℕ) → FunctionFound tree r → r ≡ Some f → FunctionAt tree f
 found-function tree r f (a_function {f = g} a) e = let z : f ≡ g = cc in rw z a
 found-function tree r f none_found e = absurd (let z : ◌≡◌ {A = ℕ} 0 1 = cc in omega arith)

@@ -30,7 +30,7 @@ use Rattle.syntax.specs.Places.{IsKind, FunctionAt, function_of}
 use Rattle.syntax.proofs.Records.{name_record, mangled_record, function-name, function_mangled}
 use Rattle.texts.specs.Texts.{has_text, has_own, own_text, original, original_at, text_digest_at, Numbered}
 use Rattle.texts.proofs.TextLaws.{original-below, original-has, original-text, same_numbers}
-use Rattle.records.specs.declared.words.Found.{Found}
+use Rattle.std.specs.Prelude.{Option as StdOption, Some, None, SomeIff}
 use Rattle.keys.specs.Keys.{function_key, key_record, key_slot_at, KeySlots, key_entered, function_found, FindsKey, FindsOwnKey, a_function, none_found}
 use Rattle.keys.proofs.KeyLaws.{find_hit, find_miss, find_later, find_sooner, key_mangled, key_plain}
 
@@ -211,18 +211,17 @@ module _ (tree text s : List ℕ) (number w : ℕ) (is : w ≡ word_at s (key_sl
   slot_is : (r : ℕ) → number ≡ original tree text r → word_at s (key_slot_at (records tree) (original tree text r)) ≡ w
   slot_is r e = ap (λ (o : ℕ). word_at s (key_slot_at (records tree) o)) (sym e) ∙ sym is
 
-  pub slot-free : w ≡ 0 → FindsKey tree text s number Found.Nothing
+  -- one less than the slot says, where it says more than 0
+  pub slot_told : (v : StdOption ℕ) → SomeIff v (1 ≤ w) (w - 1) → FindsKey tree text s number v
   unfolding function_found
-  slot-free z F k r h t e = record { is = sym ((k r h t).free (slot_is r e ∙ z)); function = none_found }
-
-  pub slot-taken : (w ≡ 0 → ⊥) → FindsKey tree text s number (Found.At (w - 1))
-  unfolding function_found
-  slot-taken n F k r h t e =
-      let p = (k r h t).taken (w - 1) (slot_is r e ∙ omega (arith, n)) in
+  slot_told None never F k r h t e =
+      record { is = sym ((k r h t).free (slot_is r e ∙ omega (arith, never))); function = none_found }
+  slot_told (Some f) n F k r h t e =
+      let p = (k r h t).taken f (slot_is r e ∙ omega (arith, n.0, n.1)) in
       record { is = sym p.0; function = a_function p.1 }
 
 -- the same of a function's own key
-pub own-found : (tree text s : List ℕ) → Good tree text → (f : ℕ) → FunctionAt tree f → (number : ℕ) → number ≡ original tree text (key_record tree text f) → (v : Found)
+pub own-found : (tree text s : List ℕ) → Good tree text → (f : ℕ) → FunctionAt tree f → (number : ℕ) → number ≡ original tree text (key_record tree text f) → (v : StdOption ℕ)
     → FindsKey tree text s number v → FindsOwnKey tree text s f v
 own-found tree text s good f at number e v finds F k =
     rw (key_text tree text good f at) at (finds F k (key_record tree text f) (key_is tree text good f at).below (key_has tree text good f at) e)

@@ -19,7 +19,7 @@ use Rattle.conversion.specs.Expressions.{Functions, is_mangled, get_function}
 use Rattle.conversion.specs.Functions.{get_all_functions}
 use Rattle.syntax.specs.Places.{FunctionAt, function_of}
 use Rattle.texts.specs.Texts.{has_own, own_text, original, original_at, text_digest_at, Numbered}
-use Rattle.records.specs.declared.words.Found.{Found}
+use Rattle.std.specs.Prelude.{Option as StdOption, Some, None}
 
 -- a function's key is its name if it is external or `main`, else its mangled name
 unfoldable pub function_key : Function → Text
@@ -168,26 +168,26 @@ pub record ChainKeeps (tree s s' : List ℕ) : Type 0 where
 -- ---- what a search answers
 
 module _ (tree text : List ℕ) where
-  unfoldable pub function_found : Found → Option Function
+  unfoldable pub function_found : StdOption ℕ → Option Function
   unfolding function_of
-  function_found (Found.At f) = some (function_of tree text f)
-  function_found Found.Nothing = none
+  function_found (Some f) = some (function_of tree text f)
+  function_found None = none
 
 -- a function that was found is one
-pub data FunctionFound (tree : List ℕ) : Found → Type 0 where
-  a_function : {f : ℕ} → FunctionAt tree f → FunctionFound tree (Found.At f)
-  none_found : FunctionFound tree Found.Nothing
+pub data FunctionFound (tree : List ℕ) : StdOption ℕ → Type 0 where
+  a_function : {f : ℕ} → FunctionAt tree f → FunctionFound tree (Some f)
+  none_found : FunctionFound tree None
 
 -- the answer is this function, if there is one
-pub record FunctionIs (tree text : List ℕ) (r : Found) (o : Option Function) : Type 0 where
+pub record FunctionIs (tree text : List ℕ) (r : StdOption ℕ) (o : Option Function) : Type 0 where
   pub is : function_found tree text r ≡ o
   pub function : FunctionFound tree r
 
 -- the answer to a text's number: whatever functions the slots have, the one whose key is a text of this number
-abbrev pub FindsKey : List ℕ → List ℕ → List ℕ → ℕ → Found → Type 0
+abbrev pub FindsKey : List ℕ → List ℕ → List ℕ → ℕ → StdOption ℕ → Type 0
 FindsKey tree text s number v = (F : Functions) → KeySlots tree text s F → (r : ℕ) → r < records tree → has_own tree r ≡ true → number ≡ original tree text r
     → FunctionIs tree text v (get_function (own_text tree text r) F)
 
 -- the same of the key of function f
-abbrev pub FindsOwnKey : List ℕ → List ℕ → List ℕ → ℕ → Found → Type 0
+abbrev pub FindsOwnKey : List ℕ → List ℕ → List ℕ → ℕ → StdOption ℕ → Type 0
 FindsOwnKey tree text s f v = (F : Functions) → KeySlots tree text s F → FunctionIs tree text v (get_function (function_key (function_of tree text f)) F)

@@ -8,7 +8,3 @@ use Rattle.keys.specs.declared.parts.Part.{Part}
 pub record PartIs (text : List ℕ) (p : Part) (t : Text) : Type 0 where
   pub inside : p.offset + p.len ≤ length text
   pub is : text_at text p.offset p.len ≡ t
-
--- so many bytes are looked at together, when a text is asked whether it is Latin
-abbrev pub ascii_block : ℕ
-ascii_block = 64

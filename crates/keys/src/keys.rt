@@ -20,7 +20,7 @@ use records::layout::{
 };
 use records::texts::roll_digest;
 use records::words::{
-    Found, RECORD_BYTES, WORD_A, WORD_B, WORD_C, detail, index, load, put_word, reference,
+    RECORD_BYTES, WORD_A, WORD_B, WORD_C, detail, index, load, put_word, reference,
 };
 use texts::{kept_digest, original};
 
@@ -141,20 +141,16 @@ pub fn enter_key(tree: &[u8], text: &[u8], scratch: &mut [u8], f: usize)
 }
 
 // The function whose key is the text of this number: one load, whatever the functions are.
-pub fn find_key(tree: &[u8], text: &[u8], scratch: &[u8], number: usize) -> Found
+pub fn find_key(tree: &[u8], text: &[u8], scratch: &[u8], number: usize) -> Option<usize>
     requires { Good tree.now text.now × (scratch_each * records tree.now ≤ length scratch.now) × (number < records tree.now) }
     ensures { FindsKey tree.now text.now scratch.now number result }
 {
     let n = tree.len() / RECORD_BYTES;
-    let w = index(load(scratch, KEY_SLOTS * n + KEY_SLOT_BYTES * number));
-    if w == 0 {
-        return Found::Nothing;
-    }
-    Found::At(w - 1)
+    index(load(scratch, KEY_SLOTS * n + KEY_SLOT_BYTES * number)).checked_sub(1)
 }
 
 // The function that is entered with the key of function f.
-pub fn find_own_key(tree: &[u8], text: &[u8], scratch: &[u8], f: usize) -> Found
+pub fn find_own_key(tree: &[u8], text: &[u8], scratch: &[u8], f: usize) -> Option<usize>
     requires good { Good tree.now text.now × Numbered tree.now text.now scratch.now × (scratch_each * records tree.now ≤ length scratch.now) }
     requires function_at { FunctionAt tree.now f }
     ensures { FindsOwnKey tree.now text.now scratch.now f result }
@@ -232,11 +228,9 @@ pub fn chain_functions(tree: &[u8], text: &[u8], scratch: &mut [u8], count: usiz
     clear_run(scratch, keys, keys + KEY_HEAD_BYTES * n);
     let names = NAME_HEADS * n;
     clear_run(scratch, names, names + NAME_HEAD_BYTES * n);
-    let mut j = 0;
-    while j < count {
+    for j in 0..count {
         let f = function_at(tree, scratch, j);
         chain_function(tree, text, scratch, f);
-        j += 1;
     }
 }
 

@@ -4,7 +4,6 @@ ghost use Rattle.records.specs.Words.{record_bytes, text_at, word_of};
 ghost use Rattle.conversion.specs.Ir.{same_text};
 ghost use Rattle.conversion.specs.Expressions.{cast_verb, main_name, variadic_mark};
 ghost use Rattle.conversion.specs.Functions.{is_ascii};
-ghost use Rattle.keys.specs.Parts.{ascii_block};
 
 use records::texts::same_run;
 use records::words::reference;
@@ -64,42 +63,10 @@ pub fn is_variadic_mark(text: &[u8], p: Part) -> bool
     same_bytes(text, p, b"$...")
 }
 
-// So many bytes of a long text are looked at together.
-const BLOCK: usize = 64;
-
-// Whether a block of bytes from `at` on is Latin. Nothing branches on a byte, so that the compiler looks at many at once.
-fn is_ascii_block(text: &[u8], at: usize) -> bool
-    requires { at + ascii_block ≤ length text.now }
-    ensures { result ≡ is_ascii (text_at text.now at ascii_block) }
-{
-    let mut latin = true;
-    let mut i = 0;
-    while i < BLOCK {
-        latin = latin & (text[at + i] < 128);
-        i += 1;
-    }
-    latin
-}
-
-// By blocks, and the rest singly.
+// Whether a part is Latin. The library asks this of many bytes at once.
 pub fn is_ascii(text: &[u8], p: Part) -> bool
     requires { p.offset + p.len ≤ length text.now }
     ensures { result ≡ is_ascii (text_at text.now p.offset p.len) }
 {
-    let at = p.offset;
-    let n = p.len;
-    let mut i = 0;
-    while n - i >= BLOCK {
-        if !is_ascii_block(text, at + i) {
-            return false;
-        }
-        i += BLOCK;
-    }
-    while i < n {
-        if text[at + i] >= 128 {
-            return false;
-        }
-        i += 1;
-    }
-    true
+    text[p.offset..p.offset + p.len].is_ascii()
 }

@@ -8,8 +8,7 @@ use mathlib.Core.List.{List, ◌++◌}
 use native.Mathlib.Nat.{mul_comm, mul-lt-mul_of_pos_right, mul-le-mul_left, div-lt_iff_lt-mul}
 use native.Mathlib.Omega.{arith}
 use lib.Dec.{eqb, ltb, lit<}
-use lib.ListN.{length, get_or, set, length-set}
-use lib.Seq.{get_or-set_same, get_or-set_other}
+use lib.ListN.{length, get_or}
 use borrow.Author.Count.{below_more}
 use borrow.Author.Tests.{eqb-true, eqb-false, ltb-true, ltb-false}
 use Rattle.laws.specs.Chain.{link_to, Met}
@@ -197,24 +196,6 @@ module _ (n : ℕ) (l : List ℕ) (r d b h : ℕ) (room : ChainRoom n l) (hr : r
     chained_more l' e c ed eb eh = rw e (written c ed eb eh)
 
 -- ---- the writes
-
--- one byte more is cleared
-pub cleared_more : (l₀ l : List ℕ) (from i : ℕ) → from ≤ i → i < length l → Cleared from i l₀ l → Cleared from (i + 1) l₀ (set l i 0)
-cleared_more l₀ l from i a h e =
-    record {
-      zero =
-          λ k b hk.
-          below_more (λ (k : ℕ). from ≤ k → get_or (set l i 0) k 0 ≡ 0) i
-          (λ k hk b. get_or-set_other l i k 0 0 (λ q. omega arith) ∙ e.zero k b hk)
-          (λ b. get_or-set_same l i 0 0 h)
-          k hk b;
-      before = λ k hk. get_or-set_other l i k 0 0 (λ q. omega arith) ∙ e.before k hk;
-      behind = λ k hk. get_or-set_other l i k 0 0 (λ q. omega arith) ∙ e.behind k (omega arith);
-      long = simp length-set e.long;
-    }
-
-pub cleared-whole : (l₀ l : List ℕ) (from i n : ℕ) → i ≤ n → n ≤ i → Cleared from i l₀ l → Cleared from n l₀ l
-cleared-whole l₀ l from i n a b e = let q : i ≡ n = omega arith in rw q at e
 
 -- from the first byte on
 pub cleared-heads : (l l' : List ℕ) (n : ℕ) → Cleared 0 n l l' → Emptied n l l'

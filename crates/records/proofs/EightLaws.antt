@@ -1,7 +1,6 @@
--- Eight bytes compared as two words: two words of 32 bits are the same exactly if their four bytes are. Four bytes of the rest, each by itself.
+-- Four bytes compared as a word: two words of 32 bits are the same exactly if their four bytes are.
 -- A word's bytes are its digits, each below 256. Assumes nothing.
-use mathlib.Core.Path.{◌≡◌, refl, sym, ap, ap₂, ◌∙◌}
-use mathlib.Core.Bool.{Bool, true, false, ◌&&◌}
+use mathlib.Core.Path.{◌≡◌, refl, sym, ap, ◌∙◌}
 use mathlib.Core.List.{List, [], ◌∷◌}
 use Prim.Native.Nat.{ℕ, ◌+◌, ◌≤◌, ◌<◌}
 use native.Mathlib.Omega.{arith}
@@ -10,7 +9,7 @@ use lib.ListN.{length}
 use borrow.Author.Tests.{eqb-true, eqb-false}
 use Rattle.laws.proofs.Tests.{tested}
 use Rattle.records.specs.Words.{byte_at, word_at, text_at, same_text, word}
-use Rattle.records.proofs.TextLaws.{first_byte, same_split, same-texts}
+use Rattle.records.proofs.TextLaws.{first_byte, same-texts}
 use Rattle.records.proofs.DigestLaws.{same-equal}
 use Rattle.records.proofs.WordLaws.{word_head}
 
@@ -20,20 +19,6 @@ four_bytes t i h =
     let z : i + 0 ≡ i = omega arith in
     rw z at (first_byte t i 4 0 (omega arith) h)
     ∙ rw (first_byte t i 4 1 (omega arith) h, first_byte t i 4 2 (omega arith) h, first_byte t i 4 3 (omega arith) h) refl
-
-all_four : (p q r s : Bool) → (((p && q) && r) && s) ≡ (p && (q && (r && (s && true))))
-all_four false q r s = refl
-all_four true false r s = refl
-all_four true true false s = refl
-all_four true true true false = refl
-all_four true true true true = refl
-
-pub four_singly : (t u : List ℕ) (i j : ℕ) → i + 4 ≤ length t → j + 4 ≤ length u
-    → (((eqb (byte_at t i) (byte_at u j) && eqb (byte_at t (i + 1)) (byte_at u (j + 1))) && eqb (byte_at t (i + 2)) (byte_at u (j + 2)))
-    && eqb (byte_at t (i + 3)) (byte_at u (j + 3)))
-    ≡ same_text (text_at t i 4) (text_at u j 4)
-unfolding same_text
-four_singly t u i j ht hu = rw (four_bytes t i ht, four_bytes u j hu) (all_four (eqb (byte_at t i) (byte_at u j)) (eqb (byte_at t (i + 1)) (byte_at u (j + 1))) (eqb (byte_at t (i + 2)) (byte_at u (j + 2))) (eqb (byte_at t (i + 3)) (byte_at u (j + 3))))
 
 text-word : (t : List ℕ) (i : ℕ) → i + 4 ≤ length t → ((k : ℕ) → byte_at t k < 256) → text_at t i 4 ≡ word (word_at t i)
 unfolding word_at
@@ -47,7 +32,7 @@ module _ (t u : List ℕ) (i j : ℕ) (ht : i + 4 ≤ length t) (hu : j + 4 ≤ 
   unfolding word_at
   number e = cc (sym (four_bytes t i ht) ∙ e ∙ four_bytes u j hu)
 
-  four_same : eqb (word_at t i) (word_at u j) ≡ same_text (text_at t i 4) (text_at u j 4)
+  pub four_same : eqb (word_at t i) (word_at u j) ≡ same_text (text_at t i 4) (text_at u j 4)
   four_same =
       tested (eqb (word_at t i) (word_at u j))
       (λ e. e ∙ sym (same-texts _ _ (digits (eqb-true _ _ e))))
@@ -55,12 +40,3 @@ module _ (t u : List ℕ) (i j : ℕ) (ht : i + 4 ≤ length t) (hu : j + 4 ≤ 
       tested (same_text (text_at t i 4) (text_at u j 4))
       (λ y. absurd (eqb-false _ _ e (number (same-equal _ _ y))))
       (λ n. e ∙ sym n))
-
-pub eight_same : (t u : List ℕ) (i j v w x y : ℕ) → i + 8 ≤ length t → j + 8 ≤ length u → ((k : ℕ) → byte_at t k < 256) → ((k : ℕ) → byte_at u k < 256)
-    → v ≡ word_at t i → w ≡ word_at u j → x ≡ word_at t (i + 4) → y ≡ word_at u (j + 4)
-    → (eqb v w && eqb x y) ≡ same_text (text_at t i 8) (text_at u j 8)
-eight_same t u i j v w x y ht hu bt bu ev ew ex ey =
-    ap₂ ◌&&◌
-    (ap₂ eqb ev ew ∙ four_same t u i j (omega arith) (omega arith) bt bu)
-    (ap₂ eqb ex ey ∙ four_same t u (i + 4) (j + 4) (omega arith) (omega arith) bt bu)
-    ∙ sym (same_split t u i j 4 4)

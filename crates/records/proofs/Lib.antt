@@ -16,7 +16,6 @@ pub mod RollLaws
 pub mod RuleLaws
 pub mod RunLaws
 pub mod SampleLaws
-pub mod ShapeCases
 pub mod ShapeTable
 pub mod TextLaws
 pub mod TypeLaws

@@ -30,10 +30,6 @@ unfolding text_at
 text_split t o n m = take-add n m (drop o t) ∙ ap (λ (l : List ℕ). take n (drop o t) ++ take m l) (drop-drop n o t)
 
 -- a byte more
-pub step_is : (d b r : ℕ) → r ≡ (d * 256 + b) % 4294967291 → (r ≡ roll_step d b) × (r < 4294967291)
-unfolding roll_step
-step_is d b r e = (e, omega (arith, e))
-
 pub step-exact : (y b : ℕ) → roll_step (y % 4294967291) b ≡ (y * 256 + b) % 4294967291
 unfolding roll_step
 step-exact y b =
@@ -100,13 +96,6 @@ pub roll_met : (t : List ℕ) (d at n x i y j : ℕ) → y ≡ x → j ≡ i →
 roll_met t d at n x i y j ey ej w = rw (ey, ej) w
 
 module _ (t : List ℕ) (d at n : ℕ) (fit : at + n ≤ length t) where
-  pub roll_start : (x : ℕ) → x ≡ d → d < 4294967291 → RollLeft t d at n x 0
-  roll_start x e h =
-      let z : at ≡ at + 0 = omega arith in
-      let y : n ≡ n - 0 = omega arith in
-      let r : d ≡ x % 4294967291 = omega (arith, e) in
-      (omega arith, omega (arith, e), ap (λ (o : ℕ). roll_from d (text_at t o n)) z ∙ ap (λ (m : ℕ). roll_from d (text_at t (at + 0) m)) y ∙ ap (λ (v : ℕ). roll_from v (text_at t (at + 0) (n - 0))) r)
-
   pub roll_on : (w x r i : ℕ) → RollLeft t d at n x i → w ≤ n - i → (r % 4294967291 ≡ roll_from (x % 4294967291) (text_at t (at + i) w)) × (r < 8589934592) → RollLeft t d at n r (i + w)
   roll_on w x r i left h e =
       let z : n - i ≡ w + (n - (i + w)) = omega (arith, left.0) in

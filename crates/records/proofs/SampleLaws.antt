@@ -177,10 +177,6 @@ pub record Filled (text : List ℕ) (stride at : ℕ) (l₀ : List ℕ) (k : ℕ
   pub behind : (i : ℕ) → SampleRoom (length text) stride at i → get_or l i 0 ≡ get_or l₀ i 0
   pub long : length l ≡ length l₀
 
--- the place of the next
-next_place : (stride k i : ℕ) → i ≡ k * stride → i + stride ≡ (k + 1) * stride
-next_place stride k i e = sym (add-mul k 1 stride ∙ ap₂ ◌+◌ (sym e) (one-mul stride))
-
 -- none yet, and none at all
 pub filled_none : (text : List ℕ) (stride at : ℕ) (l : List ℕ) → Filled text stride at l 0 l
 filled_none text stride at l =
@@ -195,27 +191,27 @@ samples_none text stride at l e =
       long = refl;
     }
 
--- before the turn of sample k: where it is in the text, and its digest and power
-pub record Sampling (text : List ℕ) (stride at : ℕ) (l₀ : List ℕ) (k i d power : ℕ) (l : List ℕ) : Type 0 where
-  pub place : i ≡ k * stride
-  pub within : i ≤ length text
-  pub digest : d ≡ roll_of (text_at text 0 i)
-  pub powered : power ≡ roll_power i
-  pub filled : Filled text stride at l₀ k l
+-- the text up to sample k has this digest and power, and those below m are written
+pub record Sampling (text : List ℕ) (stride at : ℕ) (l₀ : List ℕ) (k m d power : ℕ) (l : List ℕ) : Type 0 where
+  pub within : k * stride ≤ length text
+  pub digest : d ≡ roll_of (text_at text 0 (k * stride))
+  pub powered : power ≡ roll_power (k * stride)
+  pub filled : Filled text stride at l₀ m l
 
 pub sampling_none : (text : List ℕ) (stride at : ℕ) (l : List ℕ) → Sampling text stride at l 0 0 1 1 l
 unfolding roll_from roll_power text_at
 sampling_none text stride at l =
-    record { place = sym (zero-mul stride); within = omega arith; digest = refl; powered = refl; filled = filled_none text stride at l }
+    let z : 0 * stride ≡ 0 = zero-mul stride in
+    record { within = omega (arith, z); digest = rw z refl; powered = rw z refl; filled = filled_none text stride at l }
 
--- in its turn
+pub digest-small : (text : List ℕ) (stride at : ℕ) (l₀ : List ℕ) (k m d power : ℕ) (l : List ℕ) → Sampling text stride at l₀ k m d power l → d < 4294967291
+digest-small text stride at l₀ k m d power l s = rw s.digest (roll_small 1 (text_at text 0 (k * stride)) (omega arith))
+
+-- sample k is written
 module _ (text : List ℕ) (stride at : ℕ) (l₀ : List ℕ) (room : SampleRoom (length text) stride at (length l₀)) (some : 0 < stride)
-    (k i d power : ℕ) (l : List ℕ) (s : Sampling text stride at l₀ k i d power l) where
+    (k d power : ℕ) (l : List ℕ) (s : Sampling text stride at l₀ k k d power l) where
   pub sample_fits : sample_at at (k + 1) ≤ length l
-  sample_fits = omega (arith, room some k (omega (arith, s.place, s.within)), s.filled.long)
-
-  pub digest-small : d < 4294967291
-  digest-small = rw s.digest (roll_small 1 (text_at text 0 i) (omega arith))
+  sample_fits = omega (arith, room some k s.within, s.filled.long)
 
   vs : List ℕ
   vs = word d ++ word power
@@ -228,17 +224,15 @@ module _ (text : List ℕ) (stride at : ℕ) (l₀ : List ℕ) (room : SampleRoo
   unfolding vs word bytes_of word_at byte_at
   roll_written =
       word-there l (sample_at at k) vs vs_fit 0 (sample_at at k) (omega arith) (omega arith)
-      ∙ word_back d (omega (arith, digest-small))
+      ∙ word_back d (omega (arith, digest-small text stride at l₀ k k d power l s))
       ∙ s.digest
-      ∙ ap (beginning text) s.place
 
   power_written : word_at (splice l (sample_at at k) vs) (sample_at at k + 4) ≡ roll_power (k * stride)
   unfolding vs word bytes_of word_at byte_at
   power_written =
       word-there l (sample_at at k) vs vs_fit 4 (sample_at at k + 4) refl (omega arith)
-      ∙ word_back power (omega (arith, s.powered, power_small i))
+      ∙ word_back power (omega (arith, s.powered, power_small (k * stride)))
       ∙ s.powered
-      ∙ ap roll_power s.place
 
   stays : (j : ℕ) → j + 4 ≤ sample_at at k → word_at (splice l (sample_at at k) vs) j ≡ word_at l j
   stays j h = word-apart l (sample_at at k) vs vs_fit j (inl h)
@@ -258,44 +252,48 @@ module _ (text : List ℕ) (stride at : ℕ) (l₀ : List ℕ) (room : SampleRoo
         before = λ j h. byte-apart l (sample_at at k) vs vs_fit j (inl (omega arith)) ∙ s.filled.before j h;
         behind =
             λ j h.
-            byte-apart l (sample_at at k) vs vs_fit j (inr (omega (arith, h some k (omega (arith, s.place, s.within)))))
+            byte-apart l (sample_at at k) vs vs_fit j (inr (omega (arith, h some k s.within)))
             ∙ s.filled.behind j h;
         long = length-splice l (sample_at at k) vs vs_fit ∙ s.filled.long;
       }
 
-  module _ (l' : List ℕ) (e : l' ≡ splice l (sample_at at k) (word d ++ word power)) where
-    pub filled_more : Filled text stride at l₀ (k + 1) l'
-    unfolding vs
-    filled_more = rw e written
+  pub sampling_written : (p : ℕ) (l' : List ℕ) → p ≡ sample_at at k → l' ≡ splice l p (word d ++ word power) → Sampling text stride at l₀ k (k + 1) d power l'
+  unfolding vs
+  sampling_written p l' ep e = record { within = s.within; digest = s.digest; powered = s.powered; filled = rw (e, ep) written }
 
-    -- it was the last
-    pub filled-all : length text - i < stride → Samples text stride at l₀ l'
-    filled-all last =
-        let passed : (j : ℕ) → j * stride ≤ length text → j < k + 1 =
-        λ j h. lt_of_mul-lt-mul_right stride (omega (arith, next_place stride k i s.place, s.within)) in
-        record {
-          sampled =
-              record {
-                room = λ z j h. omega (arith, room z j h, filled_more.long);
-                rolls = λ z j h. filled_more.rolls j (passed j h);
-                powers = λ z j h. filled_more.powers j (passed j h);
-              };
-          before = filled_more.before;
-          behind = filled_more.behind;
-          long = filled_more.long;
-        }
+module _ (text : List ℕ) (stride at : ℕ) (l₀ : List ℕ) (some : 0 < stride) (k d power : ℕ) (l : List ℕ) (s : Sampling text stride at l₀ k (k + 1) d power l) where
+  next_place : (k + 1) * stride ≡ k * stride + stride
+  next_place = add-mul k 1 stride ∙ ap (λ (v : ℕ). k * stride + v) (one-mul stride)
 
-    -- or there is another
-    pub sampling_more : (f d' power' : ℕ) → stride ≤ length text - i → f ≡ roll_power stride → d' ≡ roll_from d (text_at text i stride)
-        → power' ≡ power * f % 4294967291 → Sampling text stride at l₀ (k + 1) (i + stride) d' power' l'
-    sampling_more f d' power' h ef ed ep =
-        record {
-          place = next_place stride k i s.place;
-          within = omega (arith, s.within);
-          digest = ed ∙ ap (λ (v : ℕ). roll_from v (text_at text i stride)) s.digest ∙ sym (beginning_on text i stride);
-          powered = ep ∙ ap₂ (λ (x y : ℕ). x * y % 4294967291) s.powered ef ∙ power_add i stride;
-          filled = filled_more;
-        }
+  -- there is another
+  pub stride_fits : k < length text / stride → k * stride + stride ≤ length text
+  stride_fits h = omega (arith, next_place, (le-div_iff_mul-le {x = k + 1} {y = length text} some).0 (omega arith))
+
+  pub sampling_more : (f d' power' : ℕ) → k < length text / stride → f ≡ roll_power stride → d' ≡ roll_from d (text_at text (k * stride) stride)
+      → power' ≡ power * f % 4294967291 → Sampling text stride at l₀ (k + 1) (k + 1) d' power' l
+  sampling_more f d' power' h ef ed ep =
+      record {
+        within = omega (arith, next_place, stride_fits h);
+        digest = ed ∙ ap (λ (v : ℕ). roll_from v (text_at text (k * stride) stride)) s.digest ∙ sym (beginning_on text (k * stride) stride) ∙ ap (beginning text) (sym next_place);
+        powered = ep ∙ ap₂ (λ (x y : ℕ). x * y % 4294967291) s.powered ef ∙ power_add (k * stride) stride ∙ ap roll_power (sym next_place);
+        filled = s.filled;
+      }
+
+  -- or it was the last
+  pub samples-all : SampleRoom (length text) stride at (length l₀) → length text / stride ≤ k → Samples text stride at l₀ l
+  samples-all room last =
+      let passed : (j : ℕ) → j * stride ≤ length text → j < k + 1 = λ j h. omega (arith, (le-div_iff_mul-le {x = j} some).1 h) in
+      record {
+        sampled =
+            record {
+              room = λ z j h. omega (arith, room z j h, s.filled.long);
+              rolls = λ z j h. s.filled.rolls j (passed j h);
+              powers = λ z j h. s.filled.powers j (passed j h);
+            };
+        before = s.filled.before;
+        behind = s.filled.behind;
+        long = s.filled.long;
+      }
 
 -- ---- a stride for which the samples have room, and samples that stay
 

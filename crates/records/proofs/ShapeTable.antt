@@ -1,30 +1,9 @@
--- Rows as the code looks them up: what is known in the last arm of a match on 0, 1, 2, .., and a row put together from a packed one.
--- By induction on the numbers that the arms before it took. Assumes nothing.
+-- A row as the code looks it up: put together from a packed one. Assumes nothing.
 use mathlib.Core.Path.{◌≡◌}
-use Prim.Native.Nat.{ℕ, zero, suc, ◌/◌, ◌%◌, ◌<◌, ◌≤◌}
-use native.Mathlib.Omega.{arith}
+use Prim.Native.Nat.{ℕ, ◌/◌, ◌%◌}
 use Rattle.records.specs.declared.shape.Role.{Role}
 use Rattle.records.specs.Shapes.{row, role_of, row_of}
 use Rattle.records.specs.Packed.{unpacked}
-
--- x is none of the numbers below k
-abbrev Past : ℕ → ℕ → Type 0
-Past x zero = Unit {0}
-Past x (suc k) = Past x k × (x ≡ k → ⊥)
-
-past : (x k : ℕ) → Past x k → k ≤ x
-past x zero t = omega arith
-past x (suc k) t = go (past x k t.0) t.1
-  where
-    go : k ≤ x → (x ≡ k → ⊥) → suc k ≤ x
-    go h n = omega arith
-
--- .. so that only one number is left for the last arm
-pub last : (k x : ℕ) → x < suc k → Past x k → x ≡ k
-last k x h t = go (past x k t)
-  where
-    go : k ≤ x → x ≡ k
-    go l = omega arith
 
 -- a row put together from what `packed` and `role_of` ensure
 module _ (s p : ℕ) (a b c d e : Role) where

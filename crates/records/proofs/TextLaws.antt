@@ -20,17 +20,8 @@ text-length t o n = length-take n (drop o t) ∙ ap (min n) (length-drop o t)
 min-left : (a b : ℕ) → a ≤ b → a ≡ min a b
 min-left a b h = omega arith
 
-min-right : (a b : ℕ) → b ≤ a → b ≡ min a b
-min-right a b h = omega arith
-
-pub reach_none : (t : List ℕ) (o n : ℕ) → length t ≤ o → 0 ≡ length (text_at t o n)
-reach_none t o n h = let z : 0 ≡ length t - o = omega arith in min-right n 0 (omega arith) ∙ ap (min n) z ∙ sym (text-length t o n)
-
 pub reach_whole : (t : List ℕ) (o n : ℕ) → n ≤ length t - o → n ≡ length (text_at t o n)
 reach_whole t o n h = min-left n (length t - o) h ∙ sym (text-length t o n)
-
-pub reach_end : (t : List ℕ) (o n : ℕ) → length t - o < n → length t - o ≡ length (text_at t o n)
-reach_end t o n h = min-right n (length t - o) (omega arith) ∙ sym (text-length t o n)
 
 -- a text that has bytes lies within the buffer
 pub text-inside : (t : List ℕ) (o n x : ℕ) → x ≡ length (text_at t o n) → (x ≡ 0 → ⊥) → o + x ≤ length t
@@ -121,14 +112,10 @@ pub same_split : (t u : List ℕ) (a b k m : ℕ)
 unfolding text_at
 same_split t u a b k m = same_takes k m (drop a t) (drop b u) ∙ rw (drop-drop k a t, drop-drop k b u) refl
 
--- two parts of one size
-pub same-joined : (t u : List ℕ) (i j k : ℕ) (p q : Bool) → p ≡ same_text (text_at t i k) (text_at u j k)
-    → q ≡ same_text (text_at t (i + k) k) (text_at u (j + k) k) → (p && q) ≡ same_text (text_at t i (k + k)) (text_at u j (k + k))
-same-joined t u i j k p q ep eq = ap₂ ◌&&◌ ep eq ∙ sym (same_split t u i j k k)
-
--- what was asked of n bytes from a and from b on is what is left, m bytes from i and from j on
-abbrev pub Left : List ℕ → ℕ → List ℕ → ℕ → ℕ → ℕ → ℕ → ℕ → Type 0
-Left t a u b n i j m = (i + m ≤ length t) × (j + m ≤ length u) × (same_text (text_at t a n) (text_at u b n) ≡ same_text (text_at t i m) (text_at u j m))
+-- k bytes, and m behind them, are n
+pub same-joined : (t u : List ℕ) (i j k m n : ℕ) (p q : Bool) → n ≡ k + m → p ≡ same_text (text_at t i k) (text_at u j k)
+    → q ≡ same_text (text_at t (i + k) m) (text_at u (j + k) m) → (p && q) ≡ same_text (text_at t i n) (text_at u j n)
+same-joined t u i j k m n p q e ep eq = rw e (ap₂ ◌&&◌ ep eq ∙ sym (same_split t u i j k m))
 
 -- where x is what is left of n bytes: k bytes more are the same, or not
 module _ (t u : List ℕ) (i j n k : ℕ) (x r : Bool) (fit : k ≤ n) (e : r ≡ same_text (text_at t i k) (text_at u j k))
@@ -150,19 +137,27 @@ module _ (t u : List ℕ) (a b n : ℕ) where
   abbrev pub Same : ℕ → Type 0
   Same i = same_text (text_at t a n) (text_at u b n) ≡ same_text (text_at t (a + i) (n - i)) (text_at u (b + i) (n - i))
 
-  pub byte-none : Same (min 0 n)
-  byte-none =
-      let za : a ≡ a + min 0 n = omega arith in
-      let zb : b ≡ b + min 0 n = omega arith in
-      let zn : n ≡ n - min 0 n = omega arith in
-      ap₂ same_text (ap₂ (text_at t) za zn) (ap₂ (text_at u) zb zn)
-
   pub byte_past : (k : ℕ) → n ≤ k → Same (min k n) → Same (min (k + 1) n)
   byte_past k h w = let z : min (k + 1) n ≡ min k n = omega arith in rw z w
 
   pub byte_last : (k : ℕ) → n ≤ k → Same (min k n) → true ≡ same_text (text_at t a n) (text_at u b n)
   unfolding same_text text_at
   byte_last k h w = let z : n - min k n ≡ 0 = omega arith in sym (w ∙ rw z refl)
+
+  -- k bytes behind the first i are the same, or not
+  pub same-on : (i k j : ℕ) (r : Bool) → j ≡ i + k → k ≤ n - i → r ≡ same_text (text_at t (a + i) k) (text_at u (b + i) k) → r ≡ true → Same i → Same j
+  same-on i k j r ej h e y w =
+      let za : a + i + k ≡ a + j = omega arith in
+      let zb : b + i + k ≡ b + j = omega arith in
+      let zn : n - i - k ≡ n - j = omega arith in
+      part-more t u (a + i) (b + i) (n - i) k _ r h e w y ∙ rw (za, zb, zn) refl
+
+  pub same-off : (i k : ℕ) (r : Bool) → k ≤ n - i → r ≡ same_text (text_at t (a + i) k) (text_at u (b + i) k) → r ≡ false → Same i
+      → false ≡ same_text (text_at t a n) (text_at u b n)
+  same-off i k r h e y w = part-other t u (a + i) (b + i) (n - i) k _ r h e w y
+
+  pub same_met : (i j : ℕ) → j ≡ i → Same i → Same j
+  same_met i j e w = rw e w
 
 module _ (t u : List ℕ) (a b n k : ℕ) (ha : a + n ≤ length t) (hb : b + n ≤ length u) (h : k < n) (w : Same t u a b n (min k n)) where
   byte : same_text (text_at t a n) (text_at u b n)

@@ -2,9 +2,10 @@
 -- Each byte by arithmetic, the runs by the laws of `splice`. Assumes nothing.
 use mathlib.Core.Path.{◌≡◌, refl, ap₂, ◌∙◌}
 use mathlib.Core.List.{List, [], ◌∷◌, ◌++◌}
-use Prim.Native.Nat.{ℕ, ◌+◌, ◌*◌, ◌/◌, ◌%◌, ◌^◌, ◌≤◌, ◌<◌}
+use Prim.Native.Nat.{ℕ, ◌+◌, ◌*◌, ◌/◌, ◌%◌, ◌≤◌, ◌<◌}
 use native.Mathlib.Omega.{arith}
 use lib.ListN.{length}
+use Rattle.std.specs.Int.{w32, to_le_bytes}
 use Rattle.laws.specs.Splice.{splice}
 use Rattle.laws.proofs.Splices.{splice-splice}
 use Rattle.records.specs.Words.{bytes_of, word, wide}
@@ -17,10 +18,10 @@ pub word-length : (w : ℕ) → length (word w) ≡ 4
 unfolding word bytes_of
 word-length w = refl
 
--- the code's four bytes
-pub word_bytes : (v : ℕ) → v < 2 ^ 32 → v % 256 ∷ v / 256 % 256 ∷ v / 65536 % 256 ∷ v / 16777216 ∷ [] ≡ word v
+-- the four bytes of a word
+pub word_bytes : (v : ℕ) → to_le_bytes w32 v ≡ word v
 unfolding word bytes_of
-word_bytes v h = four refl refl (omega arith) (omega arith)
+word_bytes v = four refl refl (omega arith) (omega arith)
 
 -- four bytes in one word
 pub word_head : (k o a b : ℕ) → k < 256 → o < 256 → a < 256 → b < 256 → word (k + o * 256 + a * 65536 + b * 16777216) ≡ k ∷ o ∷ a ∷ b ∷ []

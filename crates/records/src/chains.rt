@@ -6,8 +6,7 @@ ghost use Rattle.records.specs.Chains.{bucket_of, entered, ChainRoom, Cleared, E
 use crate::layout::{CHAIN_ENTRY_BYTES, CHAIN_HEAD_BYTES};
 use crate::words::{put_pair, put_word};
 
-// A walk that passes more entries than this is too long: of what is not made to share a digest or a bucket hardly ten meet in one. It must lie below the most that a
-// walk in order counts (MOST_PASSED in order.rt): else none there is too long.
+// A walk that passes more entries than this is too long: of what is not made to share a digest or a bucket hardly ten meet in one.
 pub const FAR: u32 = 32;
 
 // The bucket of a digest, of n buckets: a product and its upper half cost less than a remainder.
@@ -23,11 +22,7 @@ pub fn clear_run(scratch: &mut [u8], from: usize, to: usize)
     requires { (from ≤ to) × (to ≤ length scratch.old) }
     ensures { Cleared from to scratch.old scratch.new }
 {
-    let mut i = from;
-    while i < to {
-        scratch[i] = 0;
-        i += 1;
-    }
+    scratch[from..to].fill(0);
 }
 
 // Zero in the first n bytes, and the others as they were: no bucket has a number yet.

@@ -4,9 +4,9 @@ ghost use Rattle.records.specs.Answer.{number_of, span_word, words_of};
 
 use crate::words::{RECORD_BYTES, SPAN_END, SPAN_START, word};
 
-#[derive(Clone, Copy)]
+#[derive(Clone, Copy, Debug, PartialEq, Eq)]
 pub enum ConvertErrorKind {
-    SameSignature,
+    SameSignature = 1,
     SameSymbol,
     AlreadyDeclared,
     UnknownVariable,
@@ -36,21 +36,21 @@ pub enum ConvertErrorKind {
 }
 
 // The numbers that come without a span: NoMain, and from BadTree to ShortBuffer.
-const NO_MAIN: u32 = 10;
+const NO_MAIN: u32 = ConvertErrorKind::NoMain as u32;
 
-const BAD_TREE: u32 = 24;
+const BAD_TREE: u32 = ConvertErrorKind::BadTree as u32;
 
-const SHORT_BUFFER: u32 = 26;
+const SHORT_BUFFER: u32 = ConvertErrorKind::ShortBuffer as u32;
 
 // A refusal and the record where it happened, NONE where it has no place.
-#[derive(Clone, Copy)]
+#[derive(Clone, Copy, Debug, PartialEq, Eq)]
 pub struct ConvertError {
     pub kind: ConvertErrorKind,
     pub place: u32,
 }
 
 // An answer in document 01's words.
-#[derive(Clone, Copy)]
+#[derive(Clone, Copy, Debug, PartialEq, Eq)]
 pub struct AnswerWords {
     pub number: u32,
     pub place: u32,
@@ -62,63 +62,31 @@ pub struct AnswerWords {
 pub fn number(kind: ConvertErrorKind) -> u32
     ensures { result ≡ number_of kind }
 {
-    match kind {
-        ConvertErrorKind::SameSignature => 1,
-        ConvertErrorKind::SameSymbol => 2,
-        ConvertErrorKind::AlreadyDeclared => 3,
-        ConvertErrorKind::UnknownVariable => 4,
-        ConvertErrorKind::UnknownFunction => 5,
-        ConvertErrorKind::AssignToConstant => 6,
-        ConvertErrorKind::ReturnWithoutType => 7,
-        ConvertErrorKind::NoValue => 8,
-        ConvertErrorKind::MissingReturn => 9,
-        ConvertErrorKind::NoMain => 10,
-        ConvertErrorKind::MainNotInteger => 11,
-        ConvertErrorKind::WrongReturnType => 12,
-        ConvertErrorKind::WrongAssignType => 13,
-        ConvertErrorKind::WrongOperands => 14,
-        ConvertErrorKind::AmbiguousCall => 15,
-        ConvertErrorKind::LiteralOutOfRange => 16,
-        ConvertErrorKind::InvalidCast => 17,
-        ConvertErrorKind::NotBool => 18,
-        ConvertErrorKind::NotInteger => 19,
-        ConvertErrorKind::BreakOutOfLoop => 20,
-        ConvertErrorKind::ContinueOutOfLoop => 21,
-        ConvertErrorKind::LatinCharInNonLibCFunction => 22,
-        ConvertErrorKind::ExternNotLatin => 23,
-        ConvertErrorKind::BadTree => 24,
-        ConvertErrorKind::TooDeep => 25,
-        ConvertErrorKind::ShortBuffer => 26,
-        ConvertErrorKind::WouldPanic => 27,
-    }
+    kind as u32
 }
 
 // Word k of the place's span, where the place is a record and the number comes with a span.
+#[tactic(auto, unfolding(crate::specs::Answer::span_word, crate::specs::Answer::has_span, laws::specs::Fix::pick))]
 fn span_word(tree: &[u8], number: u32, place: u32, k: usize) -> u32
     requires { k < 7 }
     ensures { result ≡ span_word tree.now number place k }
 {
     let r = place as usize;
-    if r >= tree.len() / RECORD_BYTES {
+    if r >= tree.len() / RECORD_BYTES || matches!(number, NO_MAIN | BAD_TREE..=SHORT_BUFFER) {
         return 0;
     }
-    if (number != NO_MAIN) & !((BAD_TREE <= number) & (number <= SHORT_BUFFER)) {
-        return word(tree, r, k);
-    }
-    0
+    word(tree, r, k)
 }
 
 // A refusal of this tree in document 01's words.
 pub fn words_of(tree: &[u8], e: ConvertError) -> AnswerWords
     ensures { result ≡ words_of tree.now e }
 {
-    let kind = e.kind;
-    let place = e.place;
-    let n = number(kind);
+    let number = number(e.kind);
     AnswerWords {
-        number: n,
-        place,
-        start: span_word(tree, n, place, SPAN_START),
-        end: span_word(tree, n, place, SPAN_END),
+        number,
+        place: e.place,
+        start: span_word(tree, number, e.place, SPAN_START),
+        end: span_word(tree, number, e.place, SPAN_END),
     }
 }

@@ -5,59 +5,42 @@ ghost use Rattle.records.specs.Chains.{ChainRoom};
 ghost use Rattle.records.specs.Order.{common as common_of, Agrees, record_text, Leads, PlaceOf, placed_at};
 
 use crate::layout::{CHAIN_ENTRY_BYTES, CHAIN_HEAD_BYTES};
-use crate::texts::{reach, same_eight, same_sixty_four, same_text};
-use crate::words::{SECOND_WORD, WORD_A, WORD_B, index, load, put_pair, put_word, word};
+use crate::texts::{reach, same_eights, same_text};
+use crate::words::{SECOND_WORD, WORD_A, WORD_B, load, put_pair, put_word, word};
 
-// How many of n bytes from a and from b on agree, where the first `from` do: singly.
-fn common_singly(text: &[u8], a: usize, b: usize, n: usize, from: usize) -> usize
-    requires { (0 < n → (a + n ≤ length text.now) × (b + n ≤ length text.now)) × (from ≤ common_of (text_at text.now a n) (text_at text.now b n)) }
-    ensures { result ≡ common_of (text_at text.now a n) (text_at text.now b n) }
+// As far as parts of N eights agree: how many of n bytes are sure to, where the first `from` do.
+fn common_parts<const N: usize>(text: &[u8], a: usize, b: usize, n: usize, from: usize) -> usize
+    requires { (0 < n → (a + n ≤ length text.now) × (b + n ≤ length text.now)) × (0 < N) × (N ≤ 8) × (from ≤ common_of (text_at text.now a n) (text_at text.now b n)) }
+    ensures { result ≤ common_of (text_at text.now a n) (text_at text.now b n) }
 {
     let mut k = from;
-    while k < n {
-        if text[a + k] != text[b + k] {
-            return k;
-        }
-        k += 1;
+    // A `for` over the parts would count beside k, which is what is asked, and break at a part that differs.
+    while n - k >= 8 * N && same_eights::<N>(text, a + k, text, b + k) {
+        k += 8 * N;
     }
-    n
+    k
 }
 
-// The same by eights, and the rest singly.
-fn common_eights(text: &[u8], a: usize, b: usize, n: usize, from: usize) -> usize
-    requires { (0 < n → (a + n ≤ length text.now) × (b + n ≤ length text.now)) × (from ≤ common_of (text_at text.now a n) (text_at text.now b n)) }
-    ensures { result ≡ common_of (text_at text.now a n) (text_at text.now b n) }
-{
-    let mut k = from;
-    while n - k >= 8 {
-        if !same_eight(text, a + k, text, b + k) {
-            return common_singly(text, a, b, n, k);
-        }
-        k += 8;
-    }
-    common_singly(text, a, b, n, k)
-}
-
-// How many of n bytes from a and from b on agree, where the first `from` do: by eight eights, and the rest by eights.
+// How many of n bytes from a and from b on agree, where the first `from` do: by eight eights, by eights, and singly.
 pub fn common(text: &[u8], a: usize, b: usize, n: usize, from: usize) -> usize
     requires { (0 < n → (a + n ≤ length text.now) × (b + n ≤ length text.now)) × (from ≤ common_of (text_at text.now a n) (text_at text.now b n)) }
     ensures { result ≡ common_of (text_at text.now a n) (text_at text.now b n) }
 {
-    let mut k = from;
-    while n - k >= 64 {
-        if !same_sixty_four(text, a + k, text, b + k) {
-            return common_eights(text, a, b, n, k);
+    let long = common_parts::<8>(text, a, b, n, from);
+    let short = common_parts::<1>(text, a, b, n, long);
+    for k in short..n {
+        if text[a + k] != text[b + k] {
+            return k;
         }
-        k += 64;
     }
-    common_eights(text, a, b, n, k)
+    n
 }
 
 // The lesser of two numbers.
 pub fn least(x: usize, y: usize) -> usize
     ensures { result ≡ min x y }
 {
-    if x < y { x } else { y }
+    x.min(y)
 }
 
 // How far two texts agree, and whether they are the same.
@@ -76,15 +59,13 @@ fn agreed(text: &[u8], a: u32, n: u32, b: u32, m: u32, from: u32) -> Agreement
     let j = b as usize;
     let x = reach(text, i, n as usize);
     let y = reach(text, j, m as usize);
-    if from == 0 {
-        if same_text(text, a, n, b, m) {
-            return Agreement {
-                bytes: x as u32,
-                whole: true,
-            };
-        }
+    if from == 0 && same_text(text, a, n, b, m) {
+        return Agreement {
+            bytes: x as u32,
+            whole: true,
+        };
     }
-    let bytes = common(text, i, j, least(x, y), from as usize);
+    let bytes = common(text, i, j, x.min(y), from as usize);
     Agreement {
         bytes: bytes as u32,
         whole: (bytes == x) & (bytes == y),
@@ -110,24 +91,13 @@ fn records_agree(tree: &[u8], text: &[u8], k: usize, r: usize, from: u32) -> Agr
 }
 
 // Where a record belongs in a chain: the entry that has its text, or itself; and then where the link that is to lead to it stands, and how far its text agrees
-// with that of the entry before. Beside it, how many entries were passed, of which no more than so many are counted.
+// with that of the entry before. Beside it, how many entries were passed.
 #[derive(Clone, Copy)]
 pub struct ChainPlace {
     pub number: usize,
     pub at: usize,
     pub shared: u32,
     pub passed: u32,
-}
-
-// More than this are not counted. Whoever asks whether more than so many were passed must ask for a number below this, as FAR in chains.rt is.
-const MOST_PASSED: u32 = 64;
-
-// One entry more is passed.
-fn one_more(passed: u32) -> u32 {
-    if passed < MOST_PASSED {
-        return passed + 1;
-    }
-    passed
 }
 
 // The chain is walked from the link at `head` on. An entry tells how far its text agrees with that of the one before: only where r's text agrees just as far
@@ -148,7 +118,7 @@ pub fn find_place(
     let mut at = head;
     let mut shared: u32 = 0;
     let mut passed: u32 = 0;
-    let mut link = index(load(scratch, at));
+    let mut link = load(scratch, at) as usize;
     while link > 0 {
         let k = link - 1;
         let e = CHAIN_HEAD_BYTES * n + CHAIN_ENTRY_BYTES * k;
@@ -156,9 +126,9 @@ pub fn find_place(
         if before < shared {
             return ChainPlace {
                 number: r,
-                at: at,
-                shared: shared,
-                passed: passed,
+                at,
+                shared,
+                passed,
             };
         }
         if before == shared {
@@ -166,22 +136,22 @@ pub fn find_place(
             if a.whole {
                 return ChainPlace {
                     number: k,
-                    at: at,
-                    shared: shared,
-                    passed: passed,
+                    at,
+                    shared,
+                    passed,
                 };
             }
             shared = a.bytes;
         }
         at = e + SECOND_WORD;
-        link = index(load(scratch, at));
-        passed = one_more(passed);
+        link = load(scratch, at) as usize;
+        passed = passed.saturating_add(1);
     }
     ChainPlace {
         number: r,
-        at: at,
-        shared: shared,
-        passed: passed,
+        at,
+        shared,
+        passed,
     }
 }
 

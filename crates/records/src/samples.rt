@@ -20,10 +20,8 @@ fn roll_power(n: usize) -> u32
     ensures { (result ≡ roll_power n) × (result < roll_modulus) }
 {
     let mut x: u32 = 1;
-    let mut i = 0;
-    while i < n {
+    for _i in 0..n {
         x = roll_byte(x, 0);
-        i += 1;
     }
     x
 }
@@ -49,17 +47,11 @@ pub fn sample(text: &[u8], scratch: &mut [u8], at: usize, stride: usize)
     let factor = roll_power(stride);
     let mut d: u32 = 1;
     let mut power: u32 = 1;
-    let mut i = 0;
-    let mut k = 0;
-    loop {
-        put_pair(scratch, at + SAMPLE_BYTES * k, d, power);
-        if text.len() - i < stride {
-            return;
-        }
-        d = roll(text, d, i, stride);
+    put_pair(scratch, at, d, power);
+    for k in 0..text.len() / stride {
+        d = roll(text, d, k * stride, stride);
         power = times(power, factor);
-        i += stride;
-        k += 1;
+        put_pair(scratch, at + SAMPLE_BYTES * (k + 1), d, power);
     }
 }
 

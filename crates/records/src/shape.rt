@@ -10,7 +10,7 @@ use crate::numbers::{
 };
 
 // What a word of a record is for. Text is an offset and Length the length beside it; from Expr on a word refers to a record.
-#[derive(Clone, Copy)]
+#[derive(Clone, Copy, Debug, PartialEq, Eq)]
 pub enum Role {
     Unused,
     Number,
@@ -29,7 +29,7 @@ pub enum Role {
 }
 
 // A row of the table: details stay below `limit`, and what the words A to E are for.
-#[derive(Clone, Copy)]
+#[derive(Clone, Copy, Debug, PartialEq, Eq)]
 pub struct Row {
     pub limit: u8,
     pub a: Role,
@@ -40,14 +40,11 @@ pub struct Row {
 }
 
 // The roles by number, as the packed rows have them.
+#[tactic(auto, unfolding(crate::specs::Shapes::role_of))]
 fn role_of(n: u32) -> Role
     ensures { result ≡ role_of n }
 {
-    if n >= 14 {
-        return Role::Unused;
-    }
     match n {
-        0 => Role::Unused,
         1 => Role::Number,
         2 => Role::Text,
         3 => Role::Length,
@@ -60,12 +57,14 @@ fn role_of(n: u32) -> Role
         10 => Role::Parameters,
         11 => Role::Body,
         12 => Role::Item,
-        _ => Role::Rest,
+        13 => Role::Rest,
+        _ => Role::Unused,
     }
 }
 
 // The row of a shape in one number: two hexadecimal digits for the limit, above them one for the role of each word, A's lowest. The types
 // that have words of their own (Address, Array, Custom) stand behind the kinds. A match is a look-up that builds nothing.
+#[tactic(auto, unfolding(crate::specs::Packed::unpacked, crate::specs::Shapes::row_of))]
 fn packed(shape: usize) -> u32
     requires { shape < 29 }
     ensures { unpacked result ≡ row_of shape }
@@ -124,40 +123,40 @@ pub fn row_of(shape: usize) -> Row
 }
 
 // Int, Float, Bool, Char, Byte and Null have no words of their own.
+#[tactic(auto, unfolding(crate::specs::Shapes::plain_type))]
 fn plain_type(d: u8) -> bool
     ensures { result ≡ plain_type d }
 {
-    (d == FORM_INT)
-        | (d == FORM_SHORT_INT)
-        | (d == FORM_UNSIGNED)
-        | (d == FORM_SHORT_UNSIGNED)
-        | (d == FORM_FLOAT)
-        | (d == FORM_SHORT_FLOAT)
-        | (d == FORM_BOOL)
-        | (d == FORM_CHAR)
-        | (d == FORM_BYTE)
-        | (d == FORM_NULL)
+    matches!(
+        d,
+        FORM_INT
+            | FORM_SHORT_INT
+            | FORM_UNSIGNED
+            | FORM_SHORT_UNSIGNED
+            | FORM_FLOAT
+            | FORM_SHORT_FLOAT
+            | FORM_BOOL
+            | FORM_CHAR
+            | FORM_BYTE
+            | FORM_NULL
+    )
 }
 
+#[tactic(auto, unfolding(crate::specs::Shapes::type_shape, laws::specs::Fix::pick))]
 fn type_shape(detail: u8) -> usize
     ensures { (result ≡ type_shape detail) × (result < 29) }
 {
-    if plain_type(detail) {
-        return 1;
+    match detail {
+        FORM_ADDRESS => 26,
+        FORM_ARRAY => 27,
+        FORM_CUSTOM => 28,
+        _ if plain_type(detail) => 1,
+        _ => 0,
     }
-    if detail == FORM_ADDRESS {
-        return 26;
-    }
-    if detail == FORM_ARRAY {
-        return 27;
-    }
-    if detail == FORM_CUSTOM {
-        return 28;
-    }
-    0
 }
 
 // The row for a kind and a detail; 0 for an unknown kind and for a type of unknown detail.
+#[tactic(auto, unfolding(crate::specs::Shapes::shape_of, laws::specs::Fix::pick))]
 pub fn shape_of(kind: u8, detail: u8) -> usize
     ensures { (result ≡ shape_of kind detail) × (result < 29) }
 {
@@ -174,20 +173,8 @@ pub fn shape_of(kind: u8, detail: u8) -> usize
 pub fn refers_to(role: Role) -> bool
     ensures { result ≡ refers role }
 {
-    match role {
-        Role::Unused => false,
-        Role::Number => false,
-        Role::Text => false,
-        Role::Length => false,
-        Role::Expr => true,
-        Role::TypeRef => true,
-        Role::TypeOrNone => true,
-        Role::Name => true,
-        Role::Variable => true,
-        Role::Arguments => true,
-        Role::Parameters => true,
-        Role::Body => true,
-        Role::Item => true,
-        Role::Rest => true,
-    }
+    !matches!(
+        role,
+        Role::Unused | Role::Number | Role::Text | Role::Length
+    )
 }

@@ -3,45 +3,42 @@ ghost use Rattle.std.specs.Prelude.{◌≡◌, ◌+◌, ◌*◌, ◌%◌, ◌≤
 ghost use Rattle.records.specs.Words.{text_at, same_text};
 ghost use Rattle.records.specs.Digest.{digest_step, digest_end, digest_four, high_first, roll_modulus, roll_step, roll_from, roll_of};
 
-use crate::words::{load, wide};
+use crate::words::load;
 
 // How many bytes a text has: none of them lie past the buffer's end.
 pub fn reach(text: &[u8], offset: usize, len: usize) -> usize
     ensures { result ≡ length (text_at text.now offset len) }
 {
-    let all = text.len();
-    if offset >= all {
-        return 0;
-    }
-    if len <= all - offset {
-        return len;
-    }
-    all - offset
+    len.min(text.len().saturating_sub(offset))
 }
 
-// Whether eight bytes of s from i on and of t from j on are the same. The compiler makes one load of 64 bits of the two words, and of the
-// functions below wider ones; so nothing here may branch.
+// Whether four bytes of s from i on and of t from j on are the same, as one load each.
+fn same_four(s: &[u8], i: usize, t: &[u8], j: usize) -> bool
+    requires { (i + 4 ≤ length s.now) × (j + 4 ≤ length t.now) }
+    ensures { result ≡ same_text (text_at s.now i 4) (text_at t.now j 4) }
+{
+    load(s, i) == load(t, j)
+}
+
+// The same of eight bytes. The compiler makes one load of 64 bits of the two words, and of the functions below wider ones; so nothing here may
+// branch.
 pub fn same_eight(s: &[u8], i: usize, t: &[u8], j: usize) -> bool
     requires { (i + 8 ≤ length s.now) × (j + 8 ≤ length t.now) }
     ensures { result ≡ same_text (text_at s.now i 8) (text_at t.now j 8) }
 {
-    (load(s, i) == load(t, j)) & (load(s, i + 4) == load(t, j + 4))
+    same_four(s, i, t, j) & same_four(s, i + 4, t, j + 4)
 }
 
-// Two eights.
-fn same_sixteen(s: &[u8], i: usize, t: &[u8], j: usize) -> bool
-    requires { (i + 16 ≤ length s.now) × (j + 16 ≤ length t.now) }
-    ensures { result ≡ same_text (text_at s.now i 16) (text_at t.now j 16) }
+// The same of N eights, side by side: their number is fixed, so that the compiler lays them one beside the other.
+pub(crate) fn same_eights<const N: usize>(s: &[u8], i: usize, t: &[u8], j: usize) -> bool
+    requires { (i + 8 * N ≤ length s.now) × (j + 8 * N ≤ length t.now) }
+    ensures { result ≡ same_text (text_at s.now i (8 * N)) (text_at t.now j (8 * N)) }
 {
-    same_eight(s, i, t, j) & same_eight(s, i + 8, t, j + 8)
-}
-
-// Four eights.
-fn same_thirty_two(s: &[u8], i: usize, t: &[u8], j: usize) -> bool
-    requires { (i + 32 ≤ length s.now) × (j + 32 ≤ length t.now) }
-    ensures { result ≡ same_text (text_at s.now i 32) (text_at t.now j 32) }
-{
-    same_sixteen(s, i, t, j) & same_sixteen(s, i + 16, t, j + 16)
+    let mut same = true;
+    for k in 0..N {
+        same &= same_eight(s, i + 8 * k, t, j + 8 * k);
+    }
+    same
 }
 
 // Eight eights.
@@ -49,15 +46,7 @@ pub fn same_sixty_four(s: &[u8], i: usize, t: &[u8], j: usize) -> bool
     requires { (i + 64 ≤ length s.now) × (j + 64 ≤ length t.now) }
     ensures { result ≡ same_text (text_at s.now i 64) (text_at t.now j 64) }
 {
-    same_thirty_two(s, i, t, j) & same_thirty_two(s, i + 32, t, j + 32)
-}
-
-// Four bytes of the rest, each by itself. Nothing branches between them, so that the compiler compares them at once.
-fn same_four(s: &[u8], i: usize, t: &[u8], j: usize) -> bool
-    requires { (i + 4 ≤ length s.now) × (j + 4 ≤ length t.now) }
-    ensures { result ≡ same_text (text_at s.now i 4) (text_at t.now j 4) }
-{
-    (s[i] == t[j]) & (s[i + 1] == t[j + 1]) & (s[i + 2] == t[j + 2]) & (s[i + 3] == t[j + 3])
+    same_eights::<8>(s, i, t, j)
 }
 
 // Three bytes at most. The number of turns is fixed, so that the compiler lays them one behind the other.
@@ -65,14 +54,10 @@ fn same_singly(s: &[u8], a: usize, t: &[u8], b: usize, n: usize) -> bool
     requires { (a + n ≤ length s.now) × (b + n ≤ length t.now) × (n < 4) }
     ensures { result ≡ same_text (text_at s.now a n) (text_at t.now b n) }
 {
-    let mut k = 0;
-    while k < 3 {
-        if k < n {
-            if s[a + k] != t[b + k] {
-                return false;
-            }
+    for k in 0..3 {
+        if k < n && s[a + k] != t[b + k] {
+            return false;
         }
-        k += 1;
     }
     true
 }
@@ -91,58 +76,36 @@ fn same_rest(s: &[u8], a: usize, t: &[u8], b: usize, n: usize) -> bool
     same_singly(s, a + 4, t, b + 4, n - 4)
 }
 
-// Eights by two and by one, while there are eight bytes left, and the rest.
-fn same_short(s: &[u8], a: usize, t: &[u8], b: usize, n: usize) -> bool
-    requires { (a + n ≤ length s.now) × (b + n ≤ length t.now) }
-    ensures { result ≡ same_text (text_at s.now a n) (text_at t.now b n) }
-{
-    let mut i = a;
-    let mut j = b;
-    let mut left = n;
-    while left >= 16 {
-        if !same_sixteen(s, i, t, j) {
-            return false;
-        }
-        i += 16;
-        j += 16;
-        left -= 16;
-    }
-    while left >= 8 {
-        if !same_eight(s, i, t, j) {
-            return false;
-        }
-        i += 8;
-        j += 8;
-        left -= 8;
-    }
-    same_rest(s, i, t, j, left)
-}
-
-// Eights by eight, by four, by two and by one, while there are eight bytes left, and the rest.
+// Eights by eight, then by four, by two and by one at most once each, and the rest.
 fn same_long(s: &[u8], a: usize, t: &[u8], b: usize, n: usize) -> bool
     requires { (a + n ≤ length s.now) × (b + n ≤ length t.now) }
     ensures { result ≡ same_text (text_at s.now a n) (text_at t.now b n) }
 {
-    let mut i = a;
-    let mut j = b;
-    let mut left = n;
-    while left >= 64 {
-        if !same_sixty_four(s, i, t, j) {
+    for k in 0..n / 64 {
+        if !same_eights::<8>(s, a + 64 * k, t, b + 64 * k) {
             return false;
         }
-        i += 64;
-        j += 64;
-        left -= 64;
     }
-    while left >= 32 {
-        if !same_thirty_two(s, i, t, j) {
+    let mut i = n / 64 * 64;
+    if n - i >= 32 {
+        if !same_eights::<4>(s, a + i, t, b + i) {
             return false;
         }
         i += 32;
-        j += 32;
-        left -= 32;
     }
-    same_short(s, i, t, j, left)
+    if n - i >= 16 {
+        if !same_eights::<2>(s, a + i, t, b + i) {
+            return false;
+        }
+        i += 16;
+    }
+    if n - i >= 8 {
+        if !same_eight(s, a + i, t, b + i) {
+            return false;
+        }
+        i += 8;
+    }
+    same_rest(s, a + i, t, b + i, n - i)
 }
 
 // Whether n bytes of s from a on and of t from b on are the same: the one place where that is asked, eight at a time and the rest singly
@@ -196,6 +159,7 @@ const FACTOR_LAST: u64 = 1481765933;
 pub const ROLL_MODULUS: u64 = 4294967291;
 
 // The upper half is added to the lower: a remainder alone would keep the lowest bits from ever seeing the others.
+#[tactic(auto, unfolding(crate::specs::Digest::digest_step))]
 fn step(h: u64, w: u32, v: u32) -> u64
     requires { h < 8589934592 }
     ensures { (result ≡ digest_step h w v) × (result < 8589934592) }
@@ -204,6 +168,7 @@ fn step(h: u64, w: u32, v: u32) -> u64
     x % 4294967296 + x / 4294967296
 }
 
+#[tactic(auto, unfolding(crate::specs::Digest::digest_end))]
 fn digest_end(h: u64) -> u32
     requires { h < 8589934592 }
     ensures { result ≡ digest_end h }
@@ -235,13 +200,12 @@ const OVER_MIDDLE: u64 = 25;
 const OVER_SHORT: u64 = 5;
 
 // Four bytes as a number, the first the highest: one load, and its bytes turned round.
+#[tactic(auto, unfolding(crate::specs::Digest::high_first, crate::specs::Words::byte_at))]
 fn high_first(text: &[u8], i: usize) -> u64
     requires { i + 4 ≤ length text.now }
     ensures { (result ≡ high_first text.now i) × (result < 4294967296) }
 {
-    let a = wide(text[i]) * 16777216 + wide(text[i + 1]) * 65536;
-    let b = wide(text[i + 2]) * 256 + wide(text[i + 3]);
-    (a + b) as u64
+    u32::from_be_bytes([text[i], text[i + 1], text[i + 2], text[i + 3]]) as u64
 }
 
 // Eight bytes as such a number, short of a multiple of 2^32 - 5.
@@ -287,6 +251,7 @@ fn roll_four(text: &[u8], x: u64, i: usize) -> u64
 }
 
 // A byte more.
+#[tactic(auto, unfolding(crate::specs::Digest::roll_step))]
 pub fn roll_byte(d: u32, b: u8) -> u32
     requires { d < roll_modulus }
     ensures { (result ≡ roll_step d b) × (result < roll_modulus) }
@@ -301,11 +266,11 @@ pub fn roll(text: &[u8], d: u32, at: usize, n: usize) -> u32
     ensures { (result ≡ roll_from d (text_at text.now at n)) × (result < roll_modulus) }
 {
     let mut x = d as u64;
-    let mut i = 0;
-    while n - i >= LONG_STEP {
-        x = roll_sixteen(text, x, at + i);
-        i += LONG_STEP;
+    let steps = n / LONG_STEP;
+    for k in 0..steps {
+        x = roll_sixteen(text, x, at + LONG_STEP * k);
     }
+    let mut i = LONG_STEP * steps;
     if n - i >= MIDDLE_STEP {
         x = roll_eight(text, x, at + i);
         i += MIDDLE_STEP;
@@ -314,9 +279,8 @@ pub fn roll(text: &[u8], d: u32, at: usize, n: usize) -> u32
         x = roll_four(text, x, at + i);
         i += SHORT_STEP;
     }
-    while i < n {
-        x = turned(x * 256 + wide(text[at + i]) as u64);
-        i += 1;
+    for k in i..n {
+        x = turned(x * 256 + (text[at + k] as u64));
     }
     (x % ROLL_MODULUS) as u32
 }

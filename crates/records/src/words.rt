@@ -41,15 +41,16 @@ pub const MOST_RECORDS: usize = 16384;
 pub fn wide(x: u8) -> u32
     ensures { (result ≡ x) × (result < 256) }
 {
-    x as u32
+    u32::from(x)
 }
 
 // The word of four bytes at `at`, the lowest first.
+#[tactic(auto, unfolding(crate::specs::Words::word_at, crate::specs::Words::byte_at))]
 pub fn load(s: &[u8], at: usize) -> u32
     requires { at + 4 ≤ length s.now }
     ensures { result ≡ word_at s.now at }
 {
-    wide(s[at]) + wide(s[at + 1]) * 256 + wide(s[at + 2]) * 65536 + wide(s[at + 3]) * 16777216
+    u32::from_le_bytes([s[at], s[at + 1], s[at + 2], s[at + 3]])
 }
 
 // Word k of record r: one of A to E, or of the span.
@@ -77,11 +78,13 @@ pub fn detail(tree: &[u8], r: usize) -> u8
 }
 
 // Bytes 2 and 3 of record r, which are zero in a good record.
+#[tactic(auto, unfolding(crate::specs::Words::pad_of, crate::specs::Words::byte_at))]
 pub fn pad(tree: &[u8], r: usize) -> u32
     requires { r * record_bytes + record_bytes ≤ length tree.now }
     ensures { result ≡ pad_of tree.now r }
 {
-    wide(tree[r * RECORD_BYTES + 2]) + wide(tree[r * RECORD_BYTES + 3]) * 256
+    let at = r * RECORD_BYTES + 2;
+    u32::from(u16::from_le_bytes([tree[at], tree[at + 1]]))
 }
 
 // A word as a record's number.
@@ -97,7 +100,7 @@ pub fn reference(tree: &[u8], r: usize, k: usize) -> usize
     requires k_bound { k ≤ 4 }
     ensures { result ≡ word_of tree.now r k }
 {
-    index(word(tree, r, k))
+    word(tree, r, k) as usize
 }
 
 pub fn low(x: u64) -> u32
@@ -112,10 +115,11 @@ pub fn high(x: u64) -> u32
     (x / 4294967296) as u32
 }
 
+#[tactic(auto, unfolding(crate::specs::Words::bool_number))]
 pub fn mark(b: bool) -> u32
     ensures { result ≡ bool_number b }
 {
-    if b { 1 } else { 0 }
+    u32::from(b)
 }
 
 // v's four bytes at `at`, the lowest first.
@@ -123,10 +127,7 @@ pub fn put_word(buf: &mut [u8], at: usize, v: u32)
     requires { at + 4 ≤ length buf.old }
     ensures { buf.new ≡ splice buf.old at (word_bytes v) }
 {
-    buf[at] = (v % 256) as u8;
-    buf[at + 1] = (v / 256 % 256) as u8;
-    buf[at + 2] = (v / 65536 % 256) as u8;
-    buf[at + 3] = (v / 16777216) as u8;
+    buf[at..at + 4].copy_from_slice(&v.to_le_bytes());
 }
 
 // Two words, one behind the other.
@@ -150,13 +151,6 @@ pub fn put_four(buf: &mut [u8], at: usize, w: Four)
     let third = at + THIRD_WORD;
     put_pair(buf, at, w.0, w.1);
     put_pair(buf, third, w.2, w.3);
-}
-
-// What a search answers: the number of the entry, or that there is none.
-#[derive(Clone, Copy)]
-pub enum Found {
-    At(usize),
-    Nothing,
 }
 
 // Whether 64 bits are a NaN's: without the sign, above an infinity's.

@@ -14,11 +14,10 @@ use Rattle.records.specs.Words.{bytes_of, word}
 use Rattle.records.specs.Answer.{words_of}
 use Rattle.records.specs.declared.convert_error.ConvertError.{ConvertError}
 use Rattle.records.specs.declared.convert_error.AnswerWords.{AnswerWords}
-use Rattle.judge.specs.Judge.{Buffers, judged_in, judge_leaves}
-use Rattle.judge.specs.declared.Judged.{Judged}
+use Rattle.judge.specs.Judge.{Buffers, Judged, judged_in, judge_leaves}
 use Rattle.demands.specs.Call.{Refusal, Counted}
 use Rattle.converter.specs.declared.Counts.{Counts}
-use Rattle.converter.specs.declared.Answer.{Answer}
+use Rattle.std.specs.Prelude.{Result, Ok, Err}
 use Rattle.converter.specs.Convert.{counts_from, answer_from, Promised}
 use Rattle.rudderplum.specs.Boundary.{answer_bytes, judged_words, roomy, returned, Lent, answered_in, judge_call, conversion_bytes, roomy_for_eight, returned_eight, converted_in, call_converted}
 
@@ -102,15 +101,15 @@ module _ (l l₁ l₂ : List ℕ) (h : 32 ≤ length l) where
       (four_long a.number a.place a.start a.end) (four_long 0 0 0 0) p q
 
 -- by the case of the answer
-module _ (tree l l' : List ℕ) (a : Answer) where
-  pub converted_put : (c : Counts) → a ≡ Answer.Converted c → l' ≡ splice l 0 (conversion_bytes (Counted (counts_from c) c.visits)) → l' ≡ splice l 0 (conversion_bytes (answer_from tree a))
+module _ (tree l l' : List ℕ) (a : Result Counts ConvertError) where
+  pub converted_put : (c : Counts) → a ≡ Ok c → l' ≡ splice l 0 (conversion_bytes (Counted (counts_from c) c.visits)) → l' ≡ splice l 0 (conversion_bytes (answer_from tree a))
   unfolding answer_from
-  converted_put c e p = p ∙ ap (λ (z : Answer). splice l 0 (conversion_bytes (answer_from tree z))) (sym e)
+  converted_put c e p = p ∙ ap (λ (z : Result Counts ConvertError). splice l 0 (conversion_bytes (answer_from tree z))) (sym e)
 
-  pub refused_put : (e : ConvertError) (w : AnswerWords) → a ≡ Answer.Refused e → w ≡ words_of tree e → l' ≡ splice l 0 (conversion_bytes (Refusal w))
+  pub refused_put : (e : ConvertError) (w : AnswerWords) → a ≡ Err e → w ≡ words_of tree e → l' ≡ splice l 0 (conversion_bytes (Refusal w))
       → l' ≡ splice l 0 (conversion_bytes (answer_from tree a))
   unfolding answer_from
-  refused_put e w h q p = p ∙ ap (λ (z : AnswerWords). splice l 0 (conversion_bytes (Refusal z))) q ∙ ap (λ (z : Answer). splice l 0 (conversion_bytes (answer_from tree z))) (sym h)
+  refused_put e w h q p = p ∙ ap (λ (z : AnswerWords). splice l 0 (conversion_bytes (Refusal z))) q ∙ ap (λ (z : Result Counts ConvertError). splice l 0 (conversion_bytes (answer_from tree z))) (sym h)
 
 -- ---- the two ways through a conversion
 
@@ -126,7 +125,7 @@ pub short-convert : (tree text : List ℕ) (needsMain : Bool) (b : Lent) → len
 unfolding call_converted roomy_for_eight pick
 short-convert tree text needsMain b h = rw (lt-leb _ _ h) refl
 
-pub long-convert : (tree text : List ℕ) (needsMain : Bool) (b b' : Buffers) (a a' : List ℕ) (w : Answer)
+pub long-convert : (tree text : List ℕ) (needsMain : Bool) (b b' : Buffers) (a a' : List ℕ) (w : Result Counts ConvertError)
     → 32 ≤ length a
     → Promised tree text needsMain b w b'
     → a' ≡ splice a 0 (conversion_bytes (answer_from tree w))

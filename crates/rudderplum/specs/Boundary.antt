@@ -1,15 +1,13 @@
 -- The boundary that C and Rust call over: an answer as bytes in a lent buffer, and what each lent buffer holds afterwards.
 -- Assumes nothing: these are definitions.
-use Rattle.std.specs.Prelude.{ℕ, Bool, not, List, ◌++◌, eqb, leb, length}
+use Rattle.std.specs.Prelude.{ℕ, Bool, not, List, ◌++◌, eqb, leb, length, Ok, Err}
 use Rattle.laws.specs.Fix.{pick}
 use Rattle.laws.specs.Splice.{splice}
 use Rattle.records.specs.Words.{none, word}
 use Rattle.records.specs.Answer.{words_of}
 use Rattle.records.specs.declared.convert_error.AnswerWords.{AnswerWords}
-use Rattle.judge.specs.Judge.{Buffers, buffers, judged_in, judge_leaves}
+use Rattle.judge.specs.Judge.{Buffers, buffers, Judged, judged_in, judge_leaves}
 use Rattle.demands.specs.Call.{Answer, Refusal, Counted, call_of, answer_of, buffers_after}
-use Rattle.judge.specs.declared.Judged.{Judged}
-use Rattle.judge.specs.declared.Judged.TheVariants.{Accepted, Refused}
 
 -- 'An answer is the number, place and the record's span', four words, in this order
 unfoldable pub answer_bytes : AnswerWords → List ℕ
@@ -19,8 +17,8 @@ answer_bytes a = word a.number ++ word a.place ++ word a.start ++ word a.end
 -- a judged tree in document 01's words; an accepted one has number 0, no place and no span
 unfoldable pub judged_words : List ℕ → Judged → AnswerWords
 unfolding words_of
-judged_words tree Accepted = record { number = 0; place = none; start = 0; end = 0 }
-judged_words tree (Refused e) = words_of tree e
+judged_words tree (Ok _) = record { number = 0; place = none; start = 0; end = 0 }
+judged_words tree (Err e) = words_of tree e
 
 -- how many bytes the four words of an answer take, and the eight of a conversion's
 abbrev pub four_words : ℕ

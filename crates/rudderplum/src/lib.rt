@@ -9,9 +9,8 @@ ghost use Rattle.demands.specs.Call as Call;
 ghost use Rattle.converter.specs.Convert.{counts_from, answer_from};
 ghost use Rattle.rudderplum.specs.Boundary.{four_words, eight_words, answer_bytes, judged_words, returned, lent, judge_call, conversion_bytes, returned_eight, asks_main, call_converted};
 
-use converter::{Answer, Counts};
-use judge::Judged;
-use records::convert_error::AnswerWords;
+use converter::Counts;
+use records::convert_error::{AnswerWords, ConvertError};
 use records::words::{Four, NONE, put_four};
 
 // How many bytes an answer's words take.
@@ -28,17 +27,17 @@ fn put_answer(buffer: &mut [u8], a: AnswerWords)
 }
 
 // A judged tree in document 01's words; an accepted one has number 0 and no place.
-pub fn answer_words(tree: &[u8], judged: Judged) -> AnswerWords
+pub fn answer_words(tree: &[u8], judged: Result<(), ConvertError>) -> AnswerWords
     ensures { result ≡ judged_words tree.now judged }
 {
     match judged {
-        Judged::Accepted => AnswerWords {
+        Ok(()) => AnswerWords {
             number: 0,
             place: NONE,
             start: 0,
             end: 0,
         },
-        Judged::Refused(e) => records::convert_error::words_of(tree, e),
+        Err(e) => records::convert_error::words_of(tree, e),
     }
 }
 
@@ -111,13 +110,13 @@ fn put_refusal(buffer: &mut [u8], a: AnswerWords)
 }
 
 // Writes the eight words of a conversion's answer to the start of the buffer.
-fn put_conversion(buffer: &mut [u8], tree: &[u8], a: Answer)
+fn put_conversion(buffer: &mut [u8], tree: &[u8], a: Result<Counts, ConvertError>)
     requires { eight_words ≤ length buffer.old }
     ensures { buffer.new ≡ splice buffer.old 0 (conversion_bytes (answer_from tree.now a)) }
 {
     match a {
-        Answer::Converted(c) => put_counts(buffer, c),
-        Answer::Refused(e) => put_refusal(buffer, records::convert_error::words_of(tree, e)),
+        Ok(c) => put_counts(buffer, c),
+        Err(e) => put_refusal(buffer, records::convert_error::words_of(tree, e)),
     }
 }
 

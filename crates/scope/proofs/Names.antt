@@ -20,14 +20,12 @@ use Rattle.records.proofs.Apart.{word_back, word-there}
 use Rattle.conversion.specs.Ir.{same_text}
 use Rattle.conversion.specs.Scope.{Variable, find_in}
 use Rattle.conversion.specs.Written.{bytes_of, word, bool_number}
-use Rattle.records.specs.declared.words.Found.{Found}
-use Rattle.records.specs.declared.words.Found.TheVariants.{At, Nothing}
+use Rattle.std.specs.Prelude.{Option as StdOption, Some, None, is_some}
 use Rattle.ir.specs.declared.structs.VarId.{VarId}
 use Rattle.ir.specs.Search.{found_of}
 use Rattle.ir.proofs.SearchLaws.{found_some, found_none}
 use Rattle.scope.specs.declared.Scope.{Scope}
 use Rattle.scope.specs.declared.Known.{Known}
-use Rattle.scope.specs.declared.Declared.TheVariants as Declared
 use Rattle.scope.specs.Open.{open_variable, variables_at, variables_of, NamesRoom, name_is, words_are, name_slot_at, open_at, ToldApart, SlotTells, VariableAt, IsFound, FindMeets, more, variable_named, name_entry, name_added, NameAfforded, DeclareMeets}
 use Rattle.scope.proofs.ScopeLaws.{Kept, kept_above, word_kept, variables-kept, with_entry, entry-fits, slot-fits, slot_keeps}
 
@@ -55,20 +53,19 @@ module _ (text s : List ℕ) (sc : Scope) (u : List ℕ) (o : Option ℕ) (e : l
   looked : find_in u (variables_of text s sc) ≡ entry_at text s sc.records o
   looked = search_is text s sc.records u sc.names ∙ ap (entry_at text s sc.records) e
 
-is-entry : (text s : List ℕ) (p : ℕ) (r : Known) → VariableAt s p r → IsFound r (some (open_variable text s p))
+is-entry : (text s : List ℕ) (p : ℕ) (r : Known) → VariableAt s p r → IsFound (Some r) (some (open_variable text s p))
 unfolding VariableAt IsFound
-is-entry text s p (Known.Is v c) a = a
-is-entry text s p Known.Unknown a = absurd a
+is-entry text s p r a = a
 
 pub find_hit : (text s : List ℕ) (sc : Scope) (u : List ℕ) (r : Known) (j : ℕ) → last sc.names (name_is text s sc.records u) ≡ some j
-    → VariableAt s (8 * sc.records + 16 * j) r → FindMeets text s sc u r
+    → VariableAt s (8 * sc.records + 16 * j) r → FindMeets text s sc u (Some r)
 find_hit text s sc u r j e a =
-    subst (λ (m : Option Variable). IsFound r m) (sym (looked text s sc u (some j) e)) (is-entry text s (8 * sc.records + 16 * j) r a)
+    subst (λ (m : Option Variable). IsFound (Some r) m) (sym (looked text s sc u (some j) e)) (is-entry text s (8 * sc.records + 16 * j) r a)
 
 pub find_none : (text s : List ℕ) (sc : Scope) (u : List ℕ) → last sc.names (name_is text s sc.records u) ≡ none
-    → FindMeets text s sc u Known.Unknown
+    → FindMeets text s sc u None
 unfolding IsFound
-find_none text s sc u e = subst (λ (m : Option Variable). IsFound Known.Unknown m) (sym (looked text s sc u none e)) tt
+find_none text s sc u e = subst (λ (m : Option Variable). IsFound None m) (sym (looked text s sc u none e)) tt
 
 -- ---- the last hit
 
@@ -111,15 +108,15 @@ module _ (s : List ℕ) (n count o offset len : ℕ) where
 
   -- as the code tests it
   module _ (j : ℕ) (ej : j ≡ said) where
-    pub said-far : count ≤ j → Nothing ≡ found_of (open_at s n count o offset len)
+    pub said-far : count ≤ j → None ≡ found_of (open_at s n count o offset len)
     unfolding open_at pick
     said-far h = rw (← ej, le-ltb j count h)
 
-    pub said-other : j < count → words_are s n offset len j ≡ false → Nothing ≡ found_of (open_at s n count o offset len)
+    pub said-other : j < count → words_are s n offset len j ≡ false → None ≡ found_of (open_at s n count o offset len)
     unfolding open_at pick
     said-other h e = rw (← ej, lt-ltb j count h, e)
 
-    pub said_this : j < count → words_are s n offset len j ≡ true → At j ≡ found_of (open_at s n count o offset len)
+    pub said_this : j < count → words_are s n offset len j ≡ true → Some j ≡ found_of (open_at s n count o offset len)
     unfolding open_at pick
     said_this h e = rw (← ej, lt-ltb j count h, e)
 
@@ -224,7 +221,7 @@ module _ (text : List ℕ) (o offset len : ℕ) (v : VarId) (constant : Bool) (s
 
     pub declare-done : last sc.names (name_is text s sc.records (text_at text offset len)) ≡ none
         → last sc.names (words_are s sc.records offset len) ≡ none
-        → DeclareMeets text o offset len v constant sc s s' (Declared.Done (more sc))
+        → DeclareMeets text o offset len v constant sc s s' (Some (more sc))
     unfolding DeclareMeets
     declare-done q w = record {
       scope = refl;
@@ -239,7 +236,7 @@ module _ (text : List ℕ) (o offset len : ℕ) (v : VarId) (constant : Bool) (s
 
 pub declare-taken : (text : List ℕ) (o offset len : ℕ) (v : VarId) (constant : Bool) (sc : Scope) (s : List ℕ) (j : ℕ)
     → last sc.names (name_is text s sc.records (text_at text offset len)) ≡ some j
-    → DeclareMeets text o offset len v constant sc s s Declared.Taken
+    → DeclareMeets text o offset len v constant sc s s None
 unfolding DeclareMeets
 declare-taken text o offset len v constant sc s j q = record {
   same = refl;
@@ -254,8 +251,12 @@ mark_one b false e = omega arith
 
 -- ---- as the code meets them: what the slot answered
 
-module _ (s : List ℕ) (sc : Scope) (o offset len : ℕ) (a : Found) (e : a ≡ found_of (open_at s sc.records sc.names o offset len)) where
-  pub found_below : (j : ℕ) → a ≡ At j → j < sc.names
+absent : (a : StdOption ℕ) → is_some a ≡ false → a ≡ None
+absent None q = refl
+absent (Some j) q = absurd (false≢true (sym q))
+
+module _ (s : List ℕ) (sc : Scope) (o offset len : ℕ) (a : StdOption ℕ) (e : a ≡ found_of (open_at s sc.records sc.names o offset len)) where
+  pub found_below : (j : ℕ) → a ≡ Some j → j < sc.names
   found_below j q =
       (open_holds s sc.records sc.names o offset len j (found_some (open_at s sc.records sc.names o offset len) j a e q)).0
 
@@ -269,23 +270,27 @@ module _ (s : List ℕ) (sc : Scope) (o offset len : ℕ) (a : Found) (e : a ≡
     told_search : a ≡ found_of search_of
     told_search = words_search ∙ ap found_of (sym (last-same sc.names (name_is text s sc.records (text_at text offset len)) (words_are s sc.records offset len) told))
 
-    pub find_at : (r : Known) (j : ℕ) → a ≡ At j → VariableAt s (8 * sc.records + 16 * j) r → FindMeets text s sc (text_at text offset len) r
+    pub find_at : (r : Known) (j : ℕ) → a ≡ Some j → VariableAt s (8 * sc.records + 16 * j) r → FindMeets text s sc (text_at text offset len) (Some r)
     find_at r j q w = find_hit text s sc (text_at text offset len) r j (found_some search_of j a told_search q) w
 
-    pub find_nowhere : a ≡ Nothing → FindMeets text s sc (text_at text offset len) Known.Unknown
+    pub find_nowhere : a ≡ None → FindMeets text s sc (text_at text offset len) None
     find_nowhere q = find_none text s sc (text_at text offset len) (found_none search_of a told_search q)
 
-    pub declare_at_lem : (v : VarId) (constant : Bool) (j : ℕ) → a ≡ At j → DeclareMeets text o offset len v constant sc s s Declared.Taken
-    declare_at_lem v constant j q = declare-taken text o offset len v constant sc s j (found_some search_of j a told_search q)
+    pub declare_at_lem : (v : VarId) (constant : Bool) → is_some a ≡ true → DeclareMeets text o offset len v constant sc s s None
+    declare_at_lem v constant there = go search_of refl
+      where
+        go : (m : Option ℕ) → search_of ≡ m → DeclareMeets text o offset len v constant sc s s None
+        go (some j) e = declare-taken text o offset len v constant sc s j e
+        go none e = absurd (false≢true (sym (ap is_some (told_search ∙ ap found_of e)) ∙ there))
 
     pub declare_new_lem : (v : VarId) (constant : Bool) (b : ℕ) (s₁ s' : List ℕ) → NamesRoom sc s → NameAfforded sc v → o < sc.records
-        → offset < 2 ^ 32 → len < 2 ^ 32 → v.0 < 2 ^ 32 → b ≡ bool_number constant → a ≡ Nothing
+        → offset < 2 ^ 32 → len < 2 ^ 32 → v.0 < 2 ^ 32 → b ≡ bool_number constant → is_some a ≡ false
         → s₁ ≡ splice s (8 * sc.records + 16 * sc.names) (word offset ++ word len ++ word v.0 ++ word (2 * v.1 + b))
         → s' ≡ splice s₁ (name_slot_at sc.records o) (word sc.names)
-        → DeclareMeets text o offset len v constant sc s s' (Declared.Done (more sc))
+        → DeclareMeets text o offset len v constant sc s s' (Some (more sc))
     declare_new_lem v constant b s₁ s' room afforded inside ho hn hv eb q w₁ w =
         declare-done text o offset len v constant sc s s' room afforded inside ho hn hv
         (w ∙ ap (λ (x : List ℕ). splice x (name_slot_at sc.records o) (word sc.names))
         (w₁ ∙ ap (λ (x : ℕ). splice s (8 * sc.records + 16 * sc.names) (word offset ++ word len ++ word v.0 ++ word (2 * v.1 + x))) eb))
-        (found_none search_of a told_search q)
-        (found_none (last sc.names (words_are s sc.records offset len)) a words_search q)
+        (found_none search_of a told_search (absent a q))
+        (found_none (last sc.names (words_are s sc.records offset len)) a words_search (absent a q))

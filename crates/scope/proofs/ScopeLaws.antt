@@ -22,8 +22,8 @@ use Rattle.conversion.specs.Written.{bytes_of, word}
 use Rattle.ir.specs.declared.structs.VarId.{VarId}
 use Rattle.ir.specs.Instructions.{var_of}
 use Rattle.scope.specs.declared.Scope.{Scope}
-use Rattle.scope.specs.declared.Known.TheVariants as Known
-use Rattle.scope.specs.declared.InLoop.{InLoop}
+use Rattle.std.specs.Prelude.{Option as StdOption, Some, None}
+use Rattle.scope.specs.declared.Known.{Known}
 use Rattle.scope.specs.Open.{open_variable, variables_at, variables_of, loop_number, scope_at, NamesRoom, IsFound, FindMeets, variable_named, name_slot_at, name_entry, name_added, NameAfforded, Added, Taken, within, loop_of}
 use Rattle.records.proofs.Apart.{byte-apart, word_same}
 
@@ -160,22 +160,22 @@ pub record Finds (u : List ℕ) (d : Defined.Scope) (v : VarId) (constant : Bool
   pub var : holder.var_id ≡ var_of v
   pub fixed : holder.constant ≡ constant
 
-finds : (u : List ℕ) (d : Defined.Scope) (v : VarId) (c : Bool) (o : Option Variable) → find_variable u d ≡ o → IsFound (Known.Is v c) o → Finds u d v c
+finds : (u : List ℕ) (d : Defined.Scope) (k : Known) (o : Option Variable) → find_variable u d ≡ o → IsFound (Some k) o → Finds u d k.var k.constant
 unfolding IsFound
-finds u d v c (some x) e f = record { holder = x; found = e; var = sym f.0; fixed = sym f.1 }
-finds u d v c none e f = absurd f
+finds u d k (some x) e f = record { holder = x; found = e; var = sym f.0; fixed = sym f.1 }
+finds u d k none e f = absurd f
 
-unknown : (o : Option Variable) → IsFound Known.Unknown o → o ≡ none
+unknown : (o : Option Variable) → IsFound None o → o ≡ none
 unfolding IsFound
 unknown (some x) f = absurd f
 unknown none f = refl
 
 module _ (tree text s : List ℕ) (sc : Scope) (u : List ℕ) where
-  pub find_some : (v : VarId) (c : Bool) → FindMeets text s sc u (Known.Is v c) → Finds u (scope_at tree text s sc) v c
+  pub find_some : (k : Known) → FindMeets text s sc u (Some k) → Finds u (scope_at tree text s sc) k.var k.constant
   unfolding find_variable scope_at
-  find_some v c m = finds u (scope_at tree text s sc) v c (find_in u (variables_of text s sc)) refl m
+  find_some k m = finds u (scope_at tree text s sc) k (find_in u (variables_of text s sc)) refl m
 
-  pub find_unknown : FindMeets text s sc u Known.Unknown → find_variable u (scope_at tree text s sc) ≡ none
+  pub find_unknown : FindMeets text s sc u None → find_variable u (scope_at tree text s sc) ≡ none
   unfolding find_variable scope_at
   find_unknown m = unknown (find_in u (variables_of text s sc)) m
 
@@ -187,6 +187,6 @@ unfolding scope_at with_loop loop_number pick
 scope-loop tree text s sc r h = rw (ne_eqb r Words.none h)
 
 -- what `in_loop` answers
-pub in_loop_lem : (tree text s : List ℕ) (sc : Scope) (a : InLoop) → loop_of a ≡ loop_number sc.inner → (scope_at tree text s sc).in_loop ≡ loop_of a
+pub in_loop_lem : (tree text s : List ℕ) (sc : Scope) (a : StdOption ℕ) → loop_of a ≡ loop_number sc.inner → (scope_at tree text s sc).in_loop ≡ loop_of a
 unfolding scope_at
 in_loop_lem tree text s sc a e = sym e

@@ -17,8 +17,7 @@ use Rattle.ir.specs.declared.structs.VarId.{VarId}
 use Rattle.ir.specs.Instructions.{var_of}
 use Rattle.scope.specs.declared.Scope.{Scope}
 use Rattle.scope.specs.declared.Known.{Known}
-use Rattle.scope.specs.declared.Declared.{Declared}
-use Rattle.scope.specs.declared.InLoop.{InLoop}
+use Rattle.std.specs.Prelude.{Option as StdOption, Some, None}
 
 -- ---- what the scratch stands for
 
@@ -90,22 +89,21 @@ abbrev pub SlotTells : List ℕ → Scope → ℕ → ℕ → ℕ → Type 0
 SlotTells s sc o offset len = (j : ℕ) → j < sc.names → words_are s sc.records offset len j ≡ true → word_at s (name_slot_at sc.records o) ≡ j
 
 unfoldable pub VariableAt : List ℕ → ℕ → Known → Type 0
-VariableAt s p (Known.Is v c) = (var_of v ≡ var_at s p) × (c ≡ constant_at s p)
-VariableAt s p Known.Unknown = ⊥
+VariableAt s p k = (var_of k.var ≡ var_at s p) × (k.constant ≡ constant_at s p)
 
 -- the answer is what the definition finds
-unfoldable pub IsFound : Known → Option Variable → Type 0
-IsFound (Known.Is v c) (some x) = (var_of v ≡ x.var_id) × (c ≡ x.constant)
-IsFound (Known.Is v c) none = ⊥
-IsFound Known.Unknown (some x) = ⊥
-IsFound Known.Unknown none = Unit {0}
+unfoldable pub IsFound : StdOption Known → Option Variable → Type 0
+IsFound (Some k) (some x) = (var_of k.var ≡ x.var_id) × (k.constant ≡ x.constant)
+IsFound (Some k) none = ⊥
+IsFound None (some x) = ⊥
+IsFound None none = Unit {0}
 
 -- `find_variable` of the name u
-abbrev pub FindMeets : List ℕ → List ℕ → Scope → List ℕ → Known → Type 0
+abbrev pub FindMeets : List ℕ → List ℕ → Scope → List ℕ → StdOption Known → Type 0
 FindMeets text s sc u r = IsFound r (find_in u (variables_of text s sc))
 
 -- the same of a number and two words, in every text where the words tell the name and the slot its place
-abbrev pub FindsTold : List ℕ → Scope → ℕ → ℕ → ℕ → Known → Type 0
+abbrev pub FindsTold : List ℕ → Scope → ℕ → ℕ → ℕ → StdOption Known → Type 0
 FindsTold s sc o offset len r =
     (text : List ℕ) → ToldApart text s sc offset len → SlotTells s sc o offset len → FindMeets text s sc (text_at text offset len) r
 
@@ -151,12 +149,12 @@ module _ (text : List ℕ) (o offset len : ℕ) (v : VarId) (constant : Bool) (s
     pub holder : Variable
     pub found : find_in (text_at text offset len) (variables_of text s sc) ≡ some holder
 
-  unfoldable pub DeclareMeets : Declared → Type 0
-  DeclareMeets (Declared.Done sc') = Added sc'
-  DeclareMeets Declared.Taken = Taken
+  unfoldable pub DeclareMeets : StdOption Scope → Type 0
+  DeclareMeets (Some sc') = Added sc'
+  DeclareMeets None = Taken
 
 -- `declare` of a number and two words, in every text where the words tell the name and the slot its place
-abbrev pub DeclaresTold : ℕ → ℕ → ℕ → VarId → Bool → Scope → List ℕ → List ℕ → Declared → Type 0
+abbrev pub DeclaresTold : ℕ → ℕ → ℕ → VarId → Bool → Scope → List ℕ → List ℕ → StdOption Scope → Type 0
 DeclaresTold o offset len v constant sc s s' r =
     (text : List ℕ) → ToldApart text s sc offset len → SlotTells s sc o offset len → DeclareMeets text o offset len v constant sc s s' r
 
@@ -167,6 +165,6 @@ abbrev pub within : ℕ → Scope → Scope
 within r sc = record { records = sc.records; names = sc.names; inner = r; function = sc.function }
 
 -- what `in_loop` answers
-abbrev pub loop_of : InLoop → Option ℕ
-loop_of (InLoop.Of r) = some r
-loop_of InLoop.Outside = none
+abbrev pub loop_of : StdOption ℕ → Option ℕ
+loop_of (Some r) = some r
+loop_of None = none

@@ -12,7 +12,7 @@ ghost use Rattle.scope.specs.Open.{open_name_at, words_are, open_at, NamesRoom, 
 use ir::structs::VarId;
 use records::layout::{NAME_SLOT_BYTES, NAME_SLOTS, OPEN_NAME_BYTES, OPEN_NAMES};
 use records::words::{
-    FOURTH_WORD, Found, Four, NONE, SECOND_WORD, THIRD_WORD, index, load, mark, put_four, put_word,
+    FOURTH_WORD, Four, NONE, SECOND_WORD, THIRD_WORD, index, load, mark, put_four, put_word,
 };
 
 // For a tree of so many records: how many names are open, the record of the innermost loop (or NONE), and the function's record.
@@ -24,25 +24,11 @@ pub struct Scope {
     pub function: u32,
 }
 
+// A variable that is known, and whether it is constant.
 #[derive(Clone, Copy)]
-pub enum Known {
-    // The variable, and whether it is constant.
-    Is(VarId, bool),
-    Unknown,
-}
-
-#[derive(Clone, Copy)]
-pub enum Declared {
-    // The scope with one name more.
-    Done(Scope),
-    // AlreadyDeclared.
-    Taken,
-}
-
-#[derive(Clone, Copy)]
-pub enum InLoop {
-    Of(u32),
-    Outside,
+pub struct Known {
+    pub var: VarId,
+    pub constant: bool,
 }
 
 // Whether the name of entry j is said by these two words.
@@ -60,18 +46,25 @@ fn entry_is(scratch: &[u8], records: usize, j: usize, offset: u32, len: u32) -> 
 
 // The one of `count` open names that these two words say, with the text of number o: it stands where the slot says that the text was declared last. A
 // slot outlives its name's block and is never cleared, so the entry there is held against the count and the words.
-fn open_at(scratch: &[u8], records: usize, count: usize, o: usize, offset: u32, len: u32) -> Found
+fn open_at(
+    scratch: &[u8],
+    records: usize,
+    count: usize,
+    o: usize,
+    offset: u32,
+    len: u32,
+) -> Option<usize>
     requires { (scratch_each * records ≤ length scratch.now) × (count ≤ records) × (o < records) }
     ensures { result ≡ found_of (open_at scratch.now records count o offset len) }
 {
     let j = index(load(scratch, NAME_SLOTS * records + NAME_SLOT_BYTES * o));
     if count <= j {
-        return Found::Nothing;
+        return None;
     }
     if entry_is(scratch, records, j, offset, len) {
-        return Found::At(j);
+        return Some(j);
     }
-    Found::Nothing
+    None
 }
 
 fn variable_at(scratch: &[u8], records: usize, j: usize) -> Known
@@ -86,27 +79,28 @@ fn variable_at(scratch: &[u8], records: usize, j: usize) -> Known
         scratch,
         OPEN_NAMES * records + OPEN_NAME_BYTES * j + FOURTH_WORD,
     );
-    Known::Is(VarId(id, w / 2), w % 2 == 1)
+    Known {
+        var: VarId(id, w / 2),
+        constant: w % 2 == 1,
+    }
 }
 
 impl Scope {
     // The variable of this name, in this block or those around it, in any text where the two words tell it from the open ones, and where the slot of its
     // number o says where it stands.
-    pub fn find_variable(self, scratch: &[u8], o: usize, offset: u32, len: u32) -> Known
+    pub fn find_variable(self, scratch: &[u8], o: usize, offset: u32, len: u32) -> Option<Known>
         requires names_room { NamesRoom self scratch.now }
         requires o_lt_records { o < self.records }
         ensures { FindsTold scratch.now self o offset len result }
     {
         let n = self.records;
         let count = self.names;
-        match open_at(scratch, n, count, o, offset, len) {
-            Found::At(j) => variable_at(scratch, n, j),
-            Found::Nothing => Known::Unknown,
-        }
+        let j = open_at(scratch, n, count, o, offset, len)?;
+        Some(variable_at(scratch, n, j))
     }
 
-    // The scope with one name more, where no variable of this block or those around it has the name, in any text as above. Room for it is
-    // afforded: each name has a record of its own.
+    // The scope with one name more, where no variable of this block or those around it has the name, in any text as above; where one has it, it is
+    // declared already and nothing is answered. Room for the name is afforded: each name has a record of its own.
     pub fn declare(
         self,
         scratch: &mut [u8],
@@ -115,7 +109,7 @@ impl Scope {
         len: u32,
         v: VarId,
         constant: bool,
-    ) -> Declared
+    ) -> Option<Scope>
         requires names_room { NamesRoom self scratch.old }
         requires name_afforded { NameAfforded self v }
         requires o_lt_records { o < self.records }
@@ -124,34 +118,33 @@ impl Scope {
         let n = self.records;
         let count = self.names;
         let ty = v.1;
-        if let Found::At(_) = open_at(scratch, n, count, o, offset, len) {
-            return Declared::Taken;
+        if open_at(scratch, n, count, o, offset, len).is_some() {
+            return None;
         }
         let w = Four(offset, len, v.0, 2 * ty + mark(constant));
-        let mut next = self;
-        next.names = count + 1;
         put_four(scratch, OPEN_NAMES * n + OPEN_NAME_BYTES * count, w);
         put_word(scratch, NAME_SLOTS * n + NAME_SLOT_BYTES * o, count as u32);
-        Declared::Done(next)
+        Some(Scope {
+            names: count + 1,
+            ..self
+        })
     }
 
     // Inside the loop of this record.
     pub fn with_loop(self, r: u32) -> Scope
         ensures { result ≡ within r self }
     {
-        let mut next = self;
-        next.inner = r;
-        next
+        Scope { inner: r, ..self }
     }
 
-    // The innermost loop around this place.
-    pub fn in_loop(self) -> InLoop
+    // The innermost loop around this place, if there is one.
+    pub fn in_loop(self) -> Option<u32>
         ensures { loop_of result ≡ loop_number self.inner }
     {
         let r = self.inner;
         if r == NONE {
-            return InLoop::Outside;
+            return None;
         }
-        InLoop::Of(r)
+        Some(r)
     }
 }

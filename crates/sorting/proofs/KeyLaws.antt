@@ -66,30 +66,25 @@ no_number : Chosen [] [] true 0
 unfolding ahead common
 no_number = record { next = refl; shares = refl }
 
--- three words, as the code reads them
-module _ (tree : List ℕ) (a b i j : ℕ) (ei : i ≡ word_of tree a A) (ej : j ≡ word_of tree b A) where
-  pub first-other : (i ≡ j → ⊥) → Chosen (three_words tree a) (three_words tree b) (ltb i j) 0
-  first-other n = rw (ei, ej) (other-number (word_of tree a A) (word_of tree b A) _ _ (λ e. n (ei ∙ e ∙ sym ej)))
+-- the three words, of which those below k are the same
+module _ (tree : List ℕ) (a b : ℕ) where
+  abbrev pub SameBelow : ℕ → Type 0
+  SameBelow k = (j : ℕ) → j < k → word_of tree a j ≡ word_of tree b j
 
-  module _ (k l : ℕ) (e : i ≡ j) (ek : k ≡ word_of tree a B) (el : l ≡ word_of tree b B) where
-    behind-first : (left : Bool) (shared : ℕ) → Chosen (word_of tree a B ∷ word_of tree a C ∷ []) (word_of tree b B ∷ word_of tree b C ∷ []) left shared
-        → Chosen (three_words tree a) (three_words tree b) left (shared + 1)
-    behind-first left shared c = same_number (word_of tree a A) (word_of tree b A) _ _ left shared (sym ei ∙ e ∙ ej) c
+  pub word_other : (k x y : ℕ) → k < 3 → SameBelow k → x ≡ word_of tree a k → y ≡ word_of tree b k → (x ≡ y → ⊥)
+      → Chosen (three_words tree a) (three_words tree b) (ltb x y) k
+  word_other zero x y h s ex ey n = rw (ex, ey) (other-number _ _ _ _ (λ e. n (ex ∙ e ∙ sym ey)))
+  word_other (suc zero) x y h s ex ey n =
+      same_number _ _ _ _ (ltb x y) 0 (s 0 (omega arith)) (rw (ex, ey) (other-number _ _ _ _ (λ e. n (ex ∙ e ∙ sym ey))))
+  word_other (suc (suc zero)) x y h s ex ey n =
+      same_number _ _ _ _ (ltb x y) 1 (s 0 (omega arith))
+      (same_number _ _ _ _ (ltb x y) 0 (s 1 (omega arith)) (rw (ex, ey) (other-number _ _ _ _ (λ e. n (ex ∙ e ∙ sym ey)))))
+  word_other (suc (suc (suc k))) x y h s ex ey n = absurd (omega arith)
 
-    pub second-other : (k ≡ l → ⊥) → Chosen (three_words tree a) (three_words tree b) (ltb k l) 1
-    second-other n = behind-first (ltb k l) 0 (rw (ek, el) (other-number (word_of tree a B) (word_of tree b B) _ _ (λ q. n (ek ∙ q ∙ sym el))))
-
-    module _ (x y : ℕ) (f : k ≡ l) (ex : x ≡ word_of tree a C) (ey : y ≡ word_of tree b C) where
-      behind-second : (left : Bool) (shared : ℕ) → Chosen (word_of tree a C ∷ []) (word_of tree b C ∷ []) left shared
-          → Chosen (three_words tree a) (three_words tree b) left (shared + 1 + 1)
-      behind-second left shared c =
-          behind-first left (shared + 1) (same_number (word_of tree a B) (word_of tree b B) _ _ left shared (sym ek ∙ f ∙ el) c)
-
-      pub third_other : (x ≡ y → ⊥) → Chosen (three_words tree a) (three_words tree b) (ltb x y) 2
-      third_other n = behind-second (ltb x y) 0 (rw (ex, ey) (other-number (word_of tree a C) (word_of tree b C) _ _ (λ q. n (ex ∙ q ∙ sym ey))))
-
-      pub words_same : x ≡ y → Chosen (three_words tree a) (three_words tree b) true 3
-      words_same g = behind-second true 1 (same_number (word_of tree a C) (word_of tree b C) [] [] true 0 (sym ex ∙ g ∙ ey) no_number)
+  pub words_same : SameBelow 3 → Chosen (three_words tree a) (three_words tree b) true 3
+  words_same s =
+      same_number _ _ _ _ true 2 (s 0 (omega arith))
+      (same_number _ _ _ _ true 1 (s 1 (omega arith)) (same_number _ _ [] [] true 0 (s 2 (omega arith)) no_number))
 
 -- the form before them
 shifted : (n i j : ℕ) → ltb i j ≡ ltb (n + i) (n + j)

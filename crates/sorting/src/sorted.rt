@@ -7,11 +7,9 @@ ghost use Rattle.sorting.specs.Sorted.{has_words, three_words, word_key, record_
 
 use records::layout::ORIGINAL_BYTES;
 use records::numbers::{FORM_CUSTOM, KIND_TYPE};
-use records::order::{common, least};
+use records::order::common;
 use records::texts::reach;
-use records::words::{
-    SECOND_WORD, WORD_A, WORD_B, WORD_C, detail, index, kind, load, put_pair, put_word, word,
-};
+use records::words::{SECOND_WORD, WORD_A, WORD_B, detail, kind, load, put_pair, put_word, word};
 
 // An entry is a record, and beside it how far its key agrees with that of the entry before.
 pub const SORT_ENTRY_BYTES: usize = 8;
@@ -54,49 +52,38 @@ fn compare_texts(tree: &[u8], text: &[u8], a: usize, b: usize, from: usize) -> C
     requires from_bound { from ≤ common_of (record_text tree.now text.now a) (record_text tree.now text.now b) }
     ensures { Chosen (record_text tree.now text.now a) (record_text tree.now text.now b) result.left result.shared }
 {
-    let i = index(word(tree, a, WORD_A));
-    let x = reach(text, i, index(word(tree, a, WORD_B)));
-    let j = index(word(tree, b, WORD_A));
-    let y = reach(text, j, index(word(tree, b, WORD_B)));
-    let shared = common_from(text, i, j, least(x, y), from);
+    let i = word(tree, a, WORD_A) as usize;
+    let x = reach(text, i, word(tree, a, WORD_B) as usize);
+    let j = word(tree, b, WORD_A) as usize;
+    let y = reach(text, j, word(tree, b, WORD_B) as usize);
+    let shared = common_from(text, i, j, x.min(y), from);
     Choice {
         left: comes_first(text, i, x, j, y, shared),
         shared: shared as u32,
     }
 }
 
-// Words A, B and C of records a and b compared.
+// The words of a type's key: A, B and C.
+const KEY_WORDS: usize = 3;
+
+// Those of records a and b compared.
 fn compare_words(tree: &[u8], a: usize, b: usize) -> Choice
     requires { (a < records tree.now) × (b < records tree.now) }
     ensures { Chosen (three_words tree.now a) (three_words tree.now b) result.left result.shared }
 {
-    let i = word(tree, a, WORD_A);
-    let j = word(tree, b, WORD_A);
-    if i != j {
-        return Choice {
-            left: i < j,
-            shared: 0,
-        };
-    }
-    let k = word(tree, a, WORD_B);
-    let l = word(tree, b, WORD_B);
-    if k != l {
-        return Choice {
-            left: k < l,
-            shared: 1,
-        };
-    }
-    let x = word(tree, a, WORD_C);
-    let y = word(tree, b, WORD_C);
-    if x != y {
-        return Choice {
-            left: x < y,
-            shared: 2,
-        };
+    for k in 0..KEY_WORDS {
+        let x = word(tree, a, k);
+        let y = word(tree, b, k);
+        if x != y {
+            return Choice {
+                left: x < y,
+                shared: k as u32,
+            };
+        }
     }
     Choice {
         left: true,
-        shared: 3,
+        shared: KEY_WORDS as u32,
     }
 }
 
@@ -115,8 +102,8 @@ fn compare_types(tree: &[u8], a: usize, b: usize) -> Choice
     }
     let words = compare_words(tree, a, b);
     Choice {
-        left: words.left,
         shared: words.shared + 1,
+        ..words
     }
 }
 
@@ -171,7 +158,7 @@ fn choose(
             shared: left_shared,
         };
     }
-    compare(tree, text, a, b, index(left_shared))
+    compare(tree, text, a, b, left_shared as usize)
 }
 
 // Two runs, of the entries from lo to mid and from mid to hi: they stand from `at` on, and are merged from `to` on.
@@ -217,8 +204,8 @@ fn choose_head(tree: &[u8], text: &[u8], scratch: &[u8], runs: Runs, heads: Head
     choose(
         tree,
         text,
-        index(load(scratch, at + SORT_ENTRY_BYTES * left)),
-        index(load(scratch, at + SORT_ENTRY_BYTES * right)),
+        load(scratch, at + SORT_ENTRY_BYTES * left) as usize,
+        load(scratch, at + SORT_ENTRY_BYTES * right) as usize,
         heads.left_shared,
         heads.right_shared,
     )
@@ -260,7 +247,7 @@ fn put_next(
         put_pair(scratch, out, a, heads.left_shared);
         return Heads {
             left: next,
-            right: right,
+            right,
             left_shared: after,
             right_shared: choice.shared,
         };
@@ -270,7 +257,7 @@ fn put_next(
     let after = shared_before(scratch, at, next, runs.hi);
     put_pair(scratch, out, b, heads.right_shared);
     Heads {
-        left: left,
+        left,
         right: next,
         left_shared: choice.shared,
         right_shared: after,
@@ -289,10 +276,8 @@ fn merge(tree: &[u8], text: &[u8], scratch: &mut [u8], runs: Runs)
         left_shared: 0,
         right_shared: 0,
     };
-    let mut k = runs.lo;
-    while k < runs.hi {
+    for k in runs.lo..runs.hi {
         heads = put_next(tree, text, scratch, runs, k, heads);
-        k += 1;
     }
 }
 
@@ -317,11 +302,11 @@ fn sort_range(
     sort_range(tree, text, scratch, to, at, lo, mid);
     sort_range(tree, text, scratch, to, at, mid, hi);
     let runs = Runs {
-        at: at,
-        to: to,
-        lo: lo,
-        mid: mid,
-        hi: hi,
+        at,
+        to,
+        lo,
+        mid,
+        hi,
     };
     merge(tree, text, scratch, runs);
 }
@@ -331,11 +316,9 @@ fn copy_records(scratch: &mut [u8], at: usize, to: usize, m: usize)
     requires { TwoPlaces at to 0 m scratch.old }
     ensures { ((i : ℕ) → i < m → record_in scratch.new to i ≡ record_in scratch.old at i) × OnlyThere to 0 m scratch.old scratch.new }
 {
-    let mut i = 0;
-    while i < m {
+    for i in 0..m {
         let r = load(scratch, at + SORT_ENTRY_BYTES * i);
         put_pair(scratch, to + SORT_ENTRY_BYTES * i, r, 0);
-        i += 1;
     }
 }
 
@@ -356,13 +339,13 @@ fn text_long(tree: &[u8], text: &[u8], r: usize) -> usize
 {
     reach(
         text,
-        index(word(tree, r, WORD_A)),
-        index(word(tree, r, WORD_B)),
+        word(tree, r, WORD_A) as usize,
+        word(tree, r, WORD_B) as usize,
     )
 }
 
-// A type's form and three words.
-const WORD_KEY: usize = 4;
+// A type's form and its words.
+const WORD_KEY: usize = 1 + KEY_WORDS;
 
 // How long the key of record r is.
 fn key_long(tree: &[u8], text: &[u8], r: usize) -> usize
@@ -381,12 +364,16 @@ fn same_as_next(tree: &[u8], text: &[u8], scratch: &[u8], at: usize, i: usize) -
     ensures { result ≡ same_next (record_key tree.now text.now) scratch.now at i }
 {
     let next = i + 1;
-    let shared = index(load(scratch, at + SORT_ENTRY_BYTES * next + SECOND_WORD));
-    let x = key_long(tree, text, index(load(scratch, at + SORT_ENTRY_BYTES * i)));
+    let shared = load(scratch, at + SORT_ENTRY_BYTES * next + SECOND_WORD) as usize;
+    let x = key_long(
+        tree,
+        text,
+        load(scratch, at + SORT_ENTRY_BYTES * i) as usize,
+    );
     let y = key_long(
         tree,
         text,
-        index(load(scratch, at + SORT_ENTRY_BYTES * next)),
+        load(scratch, at + SORT_ENTRY_BYTES * next) as usize,
     );
     (shared == x) & (shared == y)
 }
@@ -404,7 +391,7 @@ fn repeated_behind(
     ensures { RepeatedBehind (record_key tree.now text.now) scratch.now at i bound result }
 {
     if same_as_next(tree, text, scratch, at, i) {
-        return index(load(scratch, at + SORT_ENTRY_BYTES * (i + 1)));
+        return load(scratch, at + SORT_ENTRY_BYTES * (i + 1)) as usize;
     }
     bound
 }
@@ -422,14 +409,8 @@ pub fn first_repeated(
     ensures { FirstRepeated (record_key tree.now text.now) scratch.now at m bound result }
 {
     let mut lowest = bound;
-    let mut i = 1;
-    while i < m {
-        let before = i - 1;
-        lowest = least(
-            lowest,
-            repeated_behind(tree, text, scratch, at, before, bound),
-        );
-        i += 1;
+    for i in 1..m {
+        lowest = lowest.min(repeated_behind(tree, text, scratch, at, i - 1, bound));
     }
     lowest
 }
@@ -444,8 +425,7 @@ fn first_up_to(tree: &[u8], text: &[u8], scratch: &[u8], at: usize, i: usize, fi
     if i == 0 {
         return r;
     }
-    let before = i - 1;
-    if same_as_next(tree, text, scratch, at, before) {
+    if same_as_next(tree, text, scratch, at, i - 1) {
         return first;
     }
     r
@@ -457,11 +437,9 @@ pub fn number_sorted(tree: &[u8], text: &[u8], scratch: &mut [u8], at: usize, m:
     ensures { NumberedUpTo (record_key tree.now text.now) (records tree.now) at m to m scratch.old scratch.new }
 {
     let mut first: u32 = 0;
-    let mut i = 0;
-    while i < m {
+    for i in 0..m {
         first = first_up_to(tree, text, scratch, at, i, first);
-        let r = index(load(scratch, at + SORT_ENTRY_BYTES * i));
+        let r = load(scratch, at + SORT_ENTRY_BYTES * i) as usize;
         put_word(scratch, to + ORIGINAL_BYTES * r, first);
-        i += 1;
     }
 }

@@ -1,5 +1,7 @@
 -- The values of a call, as the code meets them: a turn at a value, at a type, at a refusal, and the end of the loop; and the call around them.
 -- What is left suffices for what was asked, and what was pushed stands on the stack. Assumes nothing.
+use Rattle.std.specs.Prelude.{Ok, Err}
+use Rattle.expressions.specs.declared.answers.Callee as Code-Callee
 use mathlib.Core.Path.{◌≡◌, refl, sym, ap, ◌∙◌, subst}
 use mathlib.Core.Logic.{◌⊎◌, inl, inr}
 use mathlib.Core.List.{List, [], ◌∷◌, ◌++◌, append_assoc, append-nil}
@@ -19,14 +21,14 @@ use Rattle.syntax.specs.Syntax.{Args, no_args}
 use Rattle.syntax.specs.Count.{under, args_records, args_under, args_values}
 use Rattle.conversion.proofs.Sizes.{args_count}
 use Rattle.syntax.specs.Decode.{program}
-use Rattle.syntax.specs.Places.{IsExpr, IsKind, ArgsAt, expr_at, args_at}
+use Rattle.syntax.specs.Places.{IsExpr, IsKind, ArgsAt, expr_at, args_at, function_of}
 use Rattle.syntax.proofs.Records.{expr-call}
 use Rattle.syntax.proofs.Lists.{left, left_some, args_end, cell_below, next-list, next_falls}
 use Rattle.conversion.specs.ConvertError.{ConvertErrorKind, ok}
 use Rattle.conversion.specs.Ir as Ir
 use Rattle.conversion.specs.Ir.{M, ◌>>=◌, pure}
 use Rattle.conversion.specs.Scope as Def
-use Rattle.conversion.specs.Expressions.{Callee}
+use Rattle.conversion.specs.Expressions.{Callee, CallFunction, CallCast}
 use Rattle.conversion.specs.Statements.{convert_expr, convert_args, convert_call_value}
 use Rattle.conversion.specs.Visits.{typed_args}
 use Rattle.ir.specs.declared.structs.Counters.{Counters}
@@ -38,13 +40,9 @@ use Rattle.ir.proofs.StepLaws.{next_in, then_in, pure-next, stop-first, then_sto
 use Rattle.scope.specs.declared.Scope.{Scope}
 use Rattle.scope.specs.Open.{scope_at}
 use Rattle.keys.specs.Keys.{all_keys}
-use Rattle.expressions.specs.declared.answers.Resolved.{Resolved}
-use types.Run.{OneOf}
-use denote.Enum.Declared.{tag_of}
-use Rattle.expressions.specs.contracts.answers.Resolved.{the_type}
 use Rattle.expressions.specs.declared.arguments.Argument.{Argument}
 use Rattle.expressions.specs.Slots.{Typed}
-use Rattle.expressions.specs.Answers.{refusal, callee_of, ArgumentIs, CallMeets}
+use Rattle.expressions.specs.Answers.{Answer, refusal, callee_of, ArgumentIs, CallMeets}
 use Rattle.expressions.proofs.SlotLaws.{scope-frame}
 use Rattle.expressions.proofs.TurnLaws.{typed-none, typed-both}
 use Rattle.expressions.proofs.ArgumentTurns.{ValueCell, TypeCell}
@@ -69,19 +67,17 @@ module _ (tree text : List ℕ) (S : Def.Scope) where
 -- a value is three records at least: a list cell, a kind 13 and an expression
 -- ---- the call around its values
 
-pub record CalleeIs (tree text : List ℕ) (a : Resolved) : Type 0 where
+pub record CalleeIs (tree text : List ℕ) (a : Answer Code-Callee.Callee) : Type 0 where
   pub to : Callee
   pub is : callee_of tree text a ≡ ok to
 
-pub callee-is : (tree text : List ℕ) (a : Resolved) → OneOf (0 ∷ 1 ∷ []) (tag_of the_type a) → CalleeIs tree text a
+pub callee-is : (tree text : List ℕ) {a : Answer Code-Callee.Callee} (g : Code-Callee.Callee) → a ≡ Ok g → CalleeIs tree text a
 unfolding callee_of
-callee-is tree text (Resolved.Function f) h = record { to = _; is = refl }
-callee-is tree text (Resolved.Cast y) h = record { to = _; is = refl }
-callee-is tree text (Resolved.Refused z) (inl e) = absurd (omega arith)
-callee-is tree text (Resolved.Refused z) (inr e) = absurd (omega arith)
+callee-is tree text (Code-Callee.Callee.Function f) q = record { to = CallFunction (function_of tree text f); is = ap (callee_of tree text) q }
+callee-is tree text (Code-Callee.Callee.Cast y) q = record { to = CallCast y; is = ap (callee_of tree text) q }
 
 module _ {tree text l s : List ℕ} {c : Converter} {e : ℕ} (p : Converting tree text l s c) (f : ExprAfforded tree text c e) (x : IsKind tree 11 e)
-    {callee : Resolved} {s₁ : List ℕ} (m : CallMeets tree text s c.scope c.turn e callee s₁) where
+    {callee : Answer Code-Callee.Callee} {s₁ : List ℕ} (m : CallMeets tree text s c.scope c.turn e callee s₁) where
   abbrev S : Def.Scope
   S = scope_at tree text s c.scope
 
@@ -104,7 +100,7 @@ module _ {tree text l s : List ℕ} {c : Converter} {e : ℕ} (p : Converting tr
   abbrev rest : ℕ → Callee → M Ir.Operand
   rest y to = args_in tree text S W >>= (λ os. finish_call (program tree text) (all_keys tree text) e y (args_at tree text W) os to)
 
-  pub called_stop : (y : ℕ) {z : ConvertError} → callee ≡ Resolved.Refused z
+  pub called_stop : (y : ℕ) {z : ConvertError} → callee ≡ Err z
       → Converts tree text (call_steps tree text s c e y) (expr_amount (under (expr_at tree text e))) c l s (Converted.Refused z) l s₁
   unfolding convert_call_value finish_call callee_of refusal
   called_stop y w = record {
@@ -119,11 +115,11 @@ module _ {tree text l s : List ℕ} {c : Converter} {e : ℕ} (p : Converting tr
     same_args : args_steps tree text s₁ c W ≡ args_in tree text S W
     same_args = ap (λ (Z : Def.Scope). args_in tree text Z W) (scope-frame tree s s₁ m.frame text c.scope p.ready.scoped)
 
-    pub args-stop : (y : ℕ) {z : ConvertError} → OneOf (0 ∷ 1 ∷ []) (tag_of the_type callee) → a ≡ ConvertedArgs.Refused z
+    pub args-stop : (y : ℕ) {z : ConvertError} {g : Code-Callee.Callee} → callee ≡ Ok g → a ≡ ConvertedArgs.Refused z
         → Converts tree text (call_steps tree text s c e y) (expr_amount (under (expr_at tree text e))) c l s (Converted.Refused z) l₁ s₂
     unfolding convert_call_value finish_call
     args-stop y {z} not w =
-        let to = callee-is tree text callee not in record {
+        let to = callee-is tree text _ not in record {
           meets = meets-lift (texts_of tree text) (rest y) p.room (m.meets ∙ to.is) (meets-stop (texts_of tree text) (λ os. finish_call (program tree text) (all_keys tree text) e y (args_at tree text W) os to.to) n.meets.long
               (subst (λ (q : M (List Ir.Operand)). StopsIn (texts_of tree text) q c.counters l z.kind z.place) same_args (n.meets.stops z (ap (converted_args_of s₂ (records tree) c.operands) w))));
           operand = λ o k h. let z : ◌≡◌ {A = ℕ} 0 1 = cc in absurd (omega arith);
@@ -141,13 +137,13 @@ module _ {tree text l s : List ℕ} {c : Converter} {e : ℕ} (p : Converting tr
       pub finish_afforded : Afforded tree (with_counters c k) (amount (2 * count + 1) (count + 1) 0 0 count) count 0
       finish_afforded = omega (arith, f, call-under, args_count (args_at tree text W), gives.spent, (n.operands count k w).0)
 
-      pub called_next : (y : ℕ) {b : Converted} {l₂ s₃ : List ℕ} → OneOf (0 ∷ 1 ∷ []) (tag_of the_type callee)
+      pub called_next : (y : ℕ) {b : Converted} {l₂ s₃ : List ℕ} {g : Code-Callee.Callee} → callee ≡ Ok g
           → ((to : Callee) → callee_of tree text callee ≡ ok to
           → Converts tree text (finish_call (program tree text) (all_keys tree text) e y (args_at tree text W) (stack_at s₂ (records tree) c.operands count) to) (amount (2 * count + 1) (count + 1) 0 0 count) (with_counters c k) l₁ s₂ b l₂ s₃)
           → Converts tree text (call_steps tree text s c e y) (expr_amount (under (expr_at tree text e))) c l s b l₂ s₃
       unfolding convert_call_value finish_call
       called_next y not i =
-          let to = callee-is tree text callee not in
+          let to = callee-is tree text _ not in
           let j = i to.to to.is in
           let g = subst (λ (q : M (List Ir.Operand)). AddsIn (texts_of tree text) q (args_amount (args_under (args_at tree text W)) (args_values (args_at tree text W))) c.counters l (stack_at s₂ (records tree) c.operands count) k l₁) same_args gives in
           record {

@@ -1,5 +1,8 @@
 -- What stands around the parts of an expression, as the code meets it: the emitter's calls in a row are the steps of each part.
 -- By the laws of steps in a row, each definition being the chain's own text; amounts by arithmetic. Assumes nothing.
+use Rattle.std.specs.Prelude.{Ok, Err, Some, None}
+use Rattle.std.specs.Prelude as Std
+use Rattle.expressions.specs.declared.answers.Callee as Code-Callee
 use mathlib.Core.Path.{◌≡◌, refl, sym, ap, ◌∙◌, subst}
 use mathlib.Core.List.{List, []}
 use mathlib.Core.Option.{Option, none, some}
@@ -17,7 +20,7 @@ use Rattle.syntax.specs.Syntax.{UnaryOp, BinaryOp, Args, Program, Function}
 use Rattle.syntax.specs.Decode.{program}
 use Rattle.syntax.specs.Places.{IsExpr, IsKind, TypeAt, FunctionAt, function_of}
 use Rattle.syntax.proofs.Records.{function_rec}
-use Rattle.conversion.specs.ConvertError.{Result, ok, err, WouldPanic}
+use Rattle.conversion.specs.ConvertError.{Result, ok, WouldPanic}
 use Rattle.conversion.specs.Ir as Ir
 use Rattle.conversion.specs.Ir.{OVar, Unary, Binary, Cast, Call, logic_rhs, logic_end, ◌>>=◌, ◌>>◌, pure, emit, label_id}
 use Rattle.conversion.specs.Expressions.{Functions, Callee, CallFunction, CallCast}
@@ -37,11 +40,8 @@ use Rattle.ir.proofs.StepLaws.{fail-stops}
 use Rattle.laws.proofs.FixLaws.{pick_yes, pick_no}
 use Rattle.scope.specs.Open.{scope_at}
 use Rattle.keys.specs.Keys.{all_keys}
-use Rattle.expressions.specs.declared.answers.ExprType.{ExprType}
-use Rattle.expressions.specs.declared.answers.Common.{Common}
-use Rattle.expressions.specs.declared.answers.Resolved.{Resolved}
 use Rattle.expressions.specs.Slots.{common_in}
-use Rattle.expressions.specs.Answers.{refusal, type_result, common_result, callee_of, IsTyped, IsCommon, IsCallee, SidesMeet}
+use Rattle.expressions.specs.Answers.{Answer, type_result, common_result, callee_of, IsTyped, IsCommon, IsCallee, SidesMeet}
 use Rattle.expressions.proofs.TypingLaws.{left-expr, right-expr}
 use Rattle.statements.specs.Lent.{Converter, Converted, Fitted}
 use Rattle.statements.specs.Stack.{operand_at, stack_at}
@@ -147,47 +147,56 @@ module _ {tree text : List ℕ} (good : Good tree text) {e : ℕ} (x : IsKind tr
   pub right_side : {b : ℕ} → b ≡ word_of tree e B → (b < e) × IsExpr tree b
   right_side {b} q = right-expr tree text good e 10 binary-expr (sym x.kind) refl b q
 
-is-common : {tree : List ℕ} {a : Common} {y : ℕ} → IsCommon tree a → a ≡ Common.Is y → TypeAt tree y
-is-common {tree = tree} {y = y} t q = go (subst (λ (z : Common). IsCommon tree z) q t)
+is-common : {tree : List ℕ} {a : Answer (Std.Option ℕ)} {y : ℕ} → IsCommon tree a → a ≡ Ok (Some y) → TypeAt tree y
+is-common {tree = tree} {y = y} t q = go (subst (λ (z : Answer (Std.Option ℕ)). IsCommon tree z) q t)
   where
-    go : IsCommon tree (Common.Is y) → TypeAt tree y
+    go : IsCommon tree (Ok (Some y)) → TypeAt tree y
     go (IsCommon.is h) = h
 
-module _ {tree text s s' : List ℕ} (c : Converter) (e y : ℕ) {t : Common} (m : SidesMeet tree text s c.scope c.turn e t s') where
-  meets_as : (u : ExprType) → operand_type (common_result t) y ≡ type_result u
+module _ {tree text s s' : List ℕ} (c : Converter) (e y : ℕ) {t : Answer (Std.Option ℕ)} (m : SidesMeet tree text s c.scope c.turn e t s') where
+  meets_as : (u : Answer ℕ) → operand_type (common_result t) y ≡ type_result u
       → operand_type (common_in tree text (scope_at tree text s c.scope) e) y ≡ type_result u
   meets_as u q = ap (λ (z : Result (Option ℕ)). operand_type z y) m.meets ∙ q
 
-  pub common-refused : (x : ConvertError) → t ≡ Common.Refused x → OperandTyped tree text s c e y (ExprType.Refused x) s'
+  pub common-refused : (x : ConvertError) → t ≡ Err x → OperandTyped tree text s c e y (Err x) s'
   unfolding operand_type common_result type_result
-  common-refused x q = record { frame = m.frame; typed = IsTyped.no; meets = meets_as (ExprType.Refused x) (ap (λ (z : Common). operand_type (common_result z) y) q) }
+  common-refused x q = record { frame = m.frame; typed = IsTyped.no; meets = meets_as (Err x) (ap (λ (z : Answer (Std.Option ℕ)). operand_type (common_result z) y) q) }
 
-  pub common-is : (z : ℕ) → t ≡ Common.Is z → OperandTyped tree text s c e y (ExprType.Is z) s'
+  common-is : (z : ℕ) → t ≡ Ok (Some z) → OperandTyped tree text s c e y (Ok z) s'
   unfolding operand_type common_result type_result
   common-is z q = record {
     frame = m.frame;
     typed = IsTyped.is (is-common m.common q);
-    meets = meets_as (ExprType.Is z) (ap (λ (z : Common). operand_type (common_result z) y) q);
+    meets = meets_as (Ok z) (ap (λ (z : Answer (Std.Option ℕ)). operand_type (common_result z) y) q);
   }
 
-  pub common-neither : t ≡ Common.Neither → TypeAt tree y → OperandTyped tree text s c e y (ExprType.Is y) s'
+  common-neither : t ≡ Ok None → TypeAt tree y → OperandTyped tree text s c e y (Ok y) s'
   unfolding operand_type common_result type_result
-  common-neither q h = record { frame = m.frame; typed = IsTyped.is h; meets = meets_as (ExprType.Is y) (ap (λ (z : Common). operand_type (common_result z) y) q) }
+  common-neither q h = record { frame = m.frame; typed = IsTyped.is h; meets = meets_as (Ok y) (ap (λ (z : Answer (Std.Option ℕ)). operand_type (common_result z) y) q) }
+
+  -- in any case
+  pub common-either : (o : Std.Option ℕ) → t ≡ Ok o → TypeAt tree y → OperandTyped tree text s c e y (Ok (Std.unwrap_or o y)) s'
+  common-either (Some z) q h = common-is z q
+  common-either None q h = common-neither q h
 
 -- both sides are typed
-module _ {tree text s s' : List ℕ} (c : Converter) (e : ℕ) {t : Common} (m : SidesMeet tree text s c.scope c.turn e t s') where
-  sides_types_lem : (o : Option ℕ) → common_result t ≡ ok o → (u : ExprType) → CommonTyped c e tree text s u s'
+module _ {tree text s s' : List ℕ} (c : Converter) (e : ℕ) {t : Answer (Std.Option ℕ)} (m : SidesMeet tree text s c.scope c.turn e t s') where
+  sides_types_lem : (o : Option ℕ) → common_result t ≡ ok o → (u : Answer ℕ) → CommonTyped c e tree text s u s'
   sides_types_lem o q u z h = m.adds o q
 
-  pub is-types : (z : ℕ) → t ≡ Common.Is z → (u : ExprType) → CommonTyped c e tree text s u s'
+  is-types : (z : ℕ) → t ≡ Ok (Some z) → (u : Answer ℕ) → CommonTyped c e tree text s u s'
   unfolding common_result
   is-types z q u = sides_types_lem (some z) (ap common_result q) u
 
-  pub neither-types : t ≡ Common.Neither → (u : ExprType) → CommonTyped c e tree text s u s'
+  neither-types : t ≡ Ok None → (u : Answer ℕ) → CommonTyped c e tree text s u s'
   unfolding common_result
   neither-types q u = sides_types_lem none (ap common_result q) u
 
-pub refused-common : {X : Type 0} {x : ConvertError} (y : ℕ) → ExprType.Refused x ≡ ExprType.Is y → X
+  pub either-types : (o : Std.Option ℕ) → t ≡ Ok o → (u : Answer ℕ) → CommonTyped c e tree text s u s'
+  either-types (Some z) q u = is-types z q u
+  either-types None q u = neither-types q u
+
+pub refused-common : {X : Type 0} {x : ConvertError} (y : ℕ) → ◌≡◌ {A = Answer ℕ} (Err x) (Ok y) → X
 refused-common y h = let z : ◌≡◌ {A = ℕ} 0 1 = cc in absurd (omega arith)
 
 -- ---- calls
@@ -232,23 +241,19 @@ call-adds {tree = tree} {text = text} {l₁ = l₁} {l₂ = l₂} F e {f = f} {d
     (adds_seq (pure (OVar (var_of dest))) (adds_seq (emit (Call (some (var_of dest)) (function_of tree text f).rec_of)) p i) (adds-pure (OVar (var_of dest)) k₂ l₂ q.next.room))) (omega arith))) t stays names
 
 -- the call behind its values, by what it runs
-module _ (tree text : List ℕ) {callee : Resolved} {to : Callee} (m : callee_of tree text callee ≡ ok to) where
-  pub callee-refused : {x : ConvertError} → callee ≡ Resolved.Refused x → ⊥
-  unfolding callee_of refusal
-  callee-refused {x} q = let e : err x.kind x.place ≡ ok to = sym (ap (callee_of tree text) q) ∙ m in let z : ◌≡◌ {A = ℕ} 0 1 = cc in omega arith
-
-  pub callee-cast : {y : ℕ} → callee ≡ Resolved.Cast y → CallCast y ≡ to
+module _ (tree text : List ℕ) {callee : Answer Code-Callee.Callee} {to : Callee} (m : callee_of tree text callee ≡ ok to) where
+  pub callee-cast : {y : ℕ} → callee ≡ Ok (Code-Callee.Callee.Cast y) → CallCast y ≡ to
   unfolding callee_of
   callee-cast {y} q = let e : ok (CallCast y) ≡ ok to = sym (ap (callee_of tree text) q) ∙ m in cc
 
-  pub callee-function : {f : ℕ} → callee ≡ Resolved.Function f → CallFunction (function_of tree text f) ≡ to
+  pub callee-function : {f : ℕ} → callee ≡ Ok (Code-Callee.Callee.Function f) → CallFunction (function_of tree text f) ≡ to
   unfolding callee_of
   callee-function {f} q = let e : ok (CallFunction (function_of tree text f)) ≡ ok to = sym (ap (callee_of tree text) q) ∙ m in cc
 
-pub function-callee : {tree : List ℕ} {callee : Resolved} {f : ℕ} → IsCallee tree callee → callee ≡ Resolved.Function f → FunctionAt tree f
-function-callee {tree = tree} {f = f} t q = go (subst (λ (z : Resolved). IsCallee tree z) q t)
+pub function-callee : {tree : List ℕ} {callee : Answer Code-Callee.Callee} {f : ℕ} → IsCallee tree callee → callee ≡ Ok (Code-Callee.Callee.Function f) → FunctionAt tree f
+function-callee {tree = tree} {f = f} t q = go (subst (λ (z : Answer Code-Callee.Callee). IsCallee tree z) q t)
   where
-    go : IsCallee tree (Resolved.Function f) → FunctionAt tree f
+    go : IsCallee tree (Ok (Code-Callee.Callee.Function f)) → FunctionAt tree f
     go (IsCallee.a_function h) = h
 
 module _ {tree text l l₁ l₂ s s' : List ℕ} {c : Converter} (e : ℕ) {y count : ℕ} {r : NewVariable} (given : Args) (operands : List Ir.Operand) {to : Callee} {a : Converted}

@@ -6,7 +6,6 @@ use mathlib.Core.List.{List}
 use mathlib.Core.Option.{Option, none, some}
 use Prim.Native.Nat.{ℕ, ◌+◌, ◌≤◌, ◌<◌}
 use native.Mathlib.Omega.{arith}
-use denote.Enum.Declared.{tag_of}
 use Rattle.laws.specs.Fix.{pick}
 use Rattle.laws.proofs.Tests.{tested}
 use Rattle.records.specs.declared.convert_error.ConvertError.{ConvertError}
@@ -33,10 +32,7 @@ use Rattle.ir.proofs.StepLaws.{next_in, stop-first}
 use Rattle.scope.specs.declared.Scope.{Scope}
 use Rattle.scope.specs.Open.{scope_at, within}
 use Rattle.keys.specs.Keys.{all_keys}
-use Rattle.statements.specs.Lent.{Converter, Stated, Finished, finished_with}
-use Rattle.statements.specs.declared.answers.Finished as Code
-use Rattle.statements.specs.declared.answers.Finished.TheVariants as Answer
-use Rattle.statements.specs.contracts.answers.Finished.{the_type}
+use Rattle.statements.specs.Lent.{Converter, Stated, Finished}
 use Rattle.statements.specs.Meets.{StepAnswer, gave, Adds, AddsIn, Meets, texts_of}
 use Rattle.statements.specs.Converting.{Converting, with_counters, RoomFor, BehindAfforded, BlockAfforded, StaysFor, block_amount, head_amount, for_head_amount, LoopIn}
 use Rattle.statements.specs.Parts.{place_label, if_head, if_middle, loop_back, for_head, for_variable, for_turns, for_bounds, for_begin, for_test, known_variable}
@@ -244,14 +240,6 @@ module _ {tree text l s : List ℕ} {c : Converter} {r : ℕ} (p : Converting tr
 
 -- ---- If
 
-record Refusal (a : Finished) : Type 0 where
-  pub error : ConvertError
-  pub is : a ≡ Finished.Refused error
-
-refusal-of : (k : List ℕ) (a : Code.Finished) → tag_of the_type a ≡ 1 → Refusal (finished_with k a)
-refusal-of k Answer.Done e = absurd (omega arith)
-refusal-of k (Answer.Refused z) e = record { error = z; is = refl }
-
 module _ (P : Program) (F : Functions) (r : ℕ) (e : Expr) (sc : Def.Scope) (then other : M Def.Scope) where
   abbrev if_rest : Bool → M Def.Scope
   if_rest b = pick b (if_middle r >> (other >> (place_label (condition_end r) >> pure sc))) (place_label (condition_end r) >> pure sc)
@@ -306,11 +294,8 @@ module _ {tree text l s : List ℕ} {c : Converter} {r : ℕ} (p : Converting tr
       (opened_low tree text if-good r x.below v (word_of tree r C) e at, opened_at tree text if-good r x.below v (word_of tree r C) e at)
 
   module _ {a : Finished} {l₁ s₁ : List ℕ} (h : HeadAs if_head_steps c r tree text l s a l₁ s₁) where
-    pub if-stop : (w : List ℕ) (d : Code.Finished) → a ≡ finished_with w d → tag_of the_type d ≡ 1 → FinishesAs if_steps c r tree text l s a l₁ s₁
-    if-stop w d q t =
-        let z = refusal-of w d t in
-        subst (λ (y : Finished). FinishesAs if_steps c r tree text l s y l₁ s₁) (sym (q ∙ z.is))
-        (record { meets = meets-same (texts_of tree text) if-rows (seq_not (texts_of tree text) (then >> last otherwise) h.meets.long (finished-stop h (q ∙ z.is))); stays = h.stays })
+    pub if-stop : {z : ConvertError} → a ≡ Finished.Refused z → FinishesAs if_steps c r tree text l s (Finished.Refused z) l₁ s₁
+    if-stop q = record { meets = meets-same (texts_of tree text) if-rows (seq_not (texts_of tree text) (then >> last otherwise) h.meets.long (finished-stop h q)); stays = h.stays }
 
     module _ {k : Counters} {v : ℕ} (q : a ≡ Finished.Done k) (ev : v ≡ word_of tree r B) where
       pub then_afforded : BlockAfforded tree text (with_counters c k) v

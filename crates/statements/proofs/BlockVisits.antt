@@ -5,7 +5,6 @@ use mathlib.Core.Bool.{Bool, true, false}
 use mathlib.Core.List.{List, []}
 use Prim.Native.Nat.{ℕ, zero, suc, ◌+◌, ◌-◌, ◌≤◌, ◌<◌}
 use native.Mathlib.Omega.{arith}
-use denote.Enum.Declared.{tag_of}
 use Rattle.laws.specs.Different.{different}
 use Rattle.records.specs.Words.{kind_of, detail_of, word_of, records, B, C, D}
 use Rattle.records.specs.Good.{Good}
@@ -20,17 +19,13 @@ use Rattle.ir.specs.Amounts.{Amount}
 use Rattle.ir.specs.Steps.{Emits}
 use Rattle.scope.specs.declared.Scope.{Scope}
 use Rattle.scope.specs.Open.{scope_at}
-use Rattle.statements.specs.Lent.{Converter, Stated, Finished, finished_with}
-use Rattle.statements.specs.declared.answers.Finished as Code
-use Rattle.statements.specs.declared.answers.Finished.TheVariants as Answer
-use Rattle.statements.specs.contracts.answers.Finished.{the_type}
+use Rattle.statements.specs.Lent.{Converter, Stated, Finished}
 use Rattle.statements.specs.Meets.{Adds}
 use Rattle.statements.specs.Converting.{Converting, BehindAfforded, StatementAfforded}
 use Rattle.statements.specs.Answers.{States, Finishes, stated_of, stated_with}
 use Rattle.statements.specs.Turns.{Turns, Visited, Fresh, InTurn, TypedIn, own_types, head_types, for_types, StatesTyped, FinishesTyped, StatementVisited, FinishedVisited, BlockVisited}
 use Rattle.statements.proofs.TurnLaws.{turns_refl, stay_typed, fresh_begins, fresh_in_turn, turn-over, visited_later, visited-next}
 use Rattle.statements.proofs.StatedLaws.{finished-next}
-use Rattle.statements.proofs.HeadLaws.{refused-finished}
 use Rattle.statements.proofs.BlockLaws.{begun}
 use Rattle.statements.proofs.BlockTurns.{visits_from}
 
@@ -116,10 +111,6 @@ stated-visited tree text r sc {s} {s'} {a} {done} w t sc' k q = go done (sym w �
     go (Finished.Refused z) e u = let y : ◌≡◌ {A = ℕ} 0 1 = cc in absurd (omega arith)
 
 -- ---- a head, its blocks, and what stands behind them
-
-pub refused-visited : {X : Type 0} (w : List ℕ) (a : Code.Finished) → tag_of the_type a ≡ 1 → (k : Counters) → finished_with w a ≡ Finished.Done k → X
-refused-visited w Answer.Done t k q = absurd (omega arith)
-refused-visited w (Answer.Refused z) t k q = refused-finished k q
 
 -- a block behind what was visited, and then steps that only add instructions
 module _ {tree s s₁ s₂ : List ℕ} {k k₁ : Counters} {n : ℕ} (text : List ℕ) {v w : ℕ} {b : Finished} (h : Visited tree s n k s₁) (e : v ≡ w) (g : BlockVisited v tree text s₁ b s₂) (u : b ≡ Finished.Done k₁) where

@@ -1,5 +1,7 @@
 -- A name declared behind a new variable: the scope with one name more, what stays of the scratch, and the steps up to there. The zero of a type, by its form.
 -- By what `declare` owes, and the variable's type is one of the tree's. Assumes nothing.
+use Rattle.std.specs.Prelude.{Some, None}
+use Rattle.std.specs.Prelude as Std
 use mathlib.Core.Path.{◌≡◌, refl, sym, ap, ◌∙◌, subst}
 use mathlib.Core.Bool.{Bool, true, false}
 use mathlib.Core.List.{List, []}
@@ -20,12 +22,11 @@ use Rattle.syntax.specs.Places.{IsKind, TypeAt, statement_at}
 use Rattle.syntax.proofs.Records.{statement_declare}
 use Rattle.conversion.specs.ConvertError.{ConvertErrorKind, ok, err, AlreadyDeclared, BreakOutOfLoop, ContinueOutOfLoop, WouldPanic}
 use Rattle.conversion.specs.Ir as Ir
-use Rattle.conversion.specs.Ir.{FloatEntry, LabelName, M, ◌>>=◌, ◌>>◌, pure, fail, lift, new_var}
+use Rattle.conversion.specs.Ir.{FloatEntry, M, ◌>>=◌, ◌>>◌, pure, fail, lift, new_var}
 use Rattle.conversion.specs.Scope as Def
 use Rattle.conversion.specs.Scope.{Variable, find_in, declare}
 use Rattle.conversion.specs.Expressions.{Functions}
-use Rattle.conversion.specs.Statements.{zero_value, convert_declare, convert_break, convert_continue}
-use Rattle.conversion.proofs.MonadLaws.{regroup, seq_is}
+use Rattle.conversion.specs.Statements.{zero_value, convert_declare}
 use Rattle.types.specs.Fits.{IsType}
 use Rattle.ir.specs.declared.structs.Counters.{Counters}
 use Rattle.ir.specs.declared.structs.NewVariable.{NewVariable}
@@ -33,15 +34,12 @@ use Rattle.ir.specs.declared.structs.Operand.{Operand}
 use Rattle.ir.specs.declared.structs.VarId.{VarId}
 use Rattle.ir.specs.declared.pool.PoolNumber.{PoolNumber}
 use Rattle.ir.specs.Amounts.{Amount, amount, both}
-use Rattle.ir.specs.Arena.{HasSlot}
 use Rattle.ir.specs.Floats.{entry}
 use Rattle.ir.specs.Instructions.{var_of, operand_of}
 use Rattle.ir.specs.Steps.{Next, Emits, AddsVar, NumbersFloat, named}
 use Rattle.ir.proofs.StepLaws.{next_in, lift-stops, fail-stops, stop-first, then_stop}
 use Rattle.scope.specs.declared.Scope.{Scope}
 use Rattle.scope.specs.declared.Known.{Known}
-use Rattle.scope.specs.declared.Declared.{Declared}
-use Rattle.scope.specs.declared.InLoop.{InLoop}
 use Rattle.scope.specs.Open.{variable_named, NameAfforded, Added, Taken, DeclareMeets, IsFound, FindMeets, open_variable, variables_at, loop_of, loop_number, scope_at}
 use Rattle.scope.proofs.ScopeLaws.{declare-ok, declare-err, in_loop_lem}
 use Rattle.keys.specs.Keys.{all_keys}
@@ -51,13 +49,17 @@ use Rattle.expressions.proofs.OriginalLaws.{origin_text, kind-asked}
 use Rattle.expressions.proofs.TakeLaws.{as_type}
 use Rattle.statements.specs.Lent.{Converter, Stated, Finished}
 use Rattle.statements.specs.Meets.{StepAnswer, gave, refused, Adds, Meets, texts_of}
-use Rattle.statements.specs.Converting.{Converting, RoomFor, BehindAfforded, StaysFor, behind_amount}
-use Rattle.statements.specs.Parts.{emit_jump, zero_float}
-use Rattle.statements.specs.Answers.{finished_of, Leaves, States, StatesAs, declare_steps, break_steps, continue_steps}
+use Rattle.statements.specs.Converting.{Converting, RoomFor, BehindAfforded, StaysFor}
+use Rattle.statements.specs.declared.numbers.LabelKind.{LabelKind}
+use Rattle.statements.specs.declared.numbers.LabelKind.TheVariants.{LoopStart, LoopEnd}
+use Rattle.statements.specs.Labels.{label_number}
+use Rattle.statements.specs.Parts.{emit_jump, loop_jump, zero_float}
+use Rattle.statements.specs.Answers.{finished_of, Leaves, StatesAs, declare_steps, break_steps, continue_steps, loop_jump_steps}
 use Rattle.statements.specs.Turns.{InTurn, TypedIn, TurnsStay}
 use Rattle.statements.proofs.MeetLaws.{adds_in, adds_then, adds_seq, adds-pure, adds-most, adds_same, meets-gave, meets-refused, meets-same, meets_then, meets-lift}
 use Rattle.statements.proofs.AddedLaws.{added-stays, added-turns, added-ready}
 use Rattle.statements.proofs.StayLaws.{stays_refl}
+use Rattle.statements.proofs.PartLaws.{break_parts, continue_parts}
 use Rattle.statements.proofs.TurnLaws.{stay_typed}
 use Rattle.statements.proofs.FitLaws.{forms, type-is}
 use Rattle.statements.proofs.EmitLaws.{emit-adds, var_adds}
@@ -92,41 +94,41 @@ module _ {tree text l s : List ℕ} {c : Converter} (p : Converting tree text l 
         most = rw a.scope (omega arith);
       }
 
-    module _ {d : Declared} (m : DeclareMeets text (original_of tree s r) (original_word tree s r A) (original_word tree s r B) v constant c.scope s s' d) where
-      was-added : {sc' : Scope} → d ≡ Declared.Done sc' → Added text (original_of tree s r) (original_word tree s r A) (original_word tree s r B) v constant c.scope s s' sc'
+    module _ {d : Std.Option Scope} (m : DeclareMeets text (original_of tree s r) (original_word tree s r A) (original_word tree s r B) v constant c.scope s s' d) where
+      was-added : {sc' : Scope} → d ≡ Some sc' → Added text (original_of tree s r) (original_word tree s r A) (original_word tree s r B) v constant c.scope s s' sc'
       unfolding DeclareMeets
-      was-added q = subst (λ (x : Declared). DeclareMeets text (original_of tree s r) (original_word tree s r A) (original_word tree s r B) v constant c.scope s s' x) q m
+      was-added q = subst (λ (x : Std.Option Scope). DeclareMeets text (original_of tree s r) (original_word tree s r A) (original_word tree s r B) v constant c.scope s s' x) q m
 
-      was-taken : d ≡ Declared.Taken → Taken text (original_of tree s r) (original_word tree s r A) (original_word tree s r B) v constant c.scope s s'
+      was-taken : d ≡ None → Taken text (original_of tree s r) (original_word tree s r A) (original_word tree s r B) v constant c.scope s s'
       unfolding DeclareMeets
-      was-taken q = subst (λ (x : Declared). DeclareMeets text (original_of tree s r) (original_word tree s r A) (original_word tree s r B) v constant c.scope s s' x) q m
+      was-taken q = subst (λ (x : Std.Option Scope). DeclareMeets text (original_of tree s r) (original_word tree s r A) (original_word tree s r B) v constant c.scope s s' x) q m
 
       -- done: what stays, the scope that is left, and the definition's scope
-      pub declared_stays : {sc' : Scope} → d ≡ Declared.Done sc' → StaysFor tree c s s'
+      pub declared_stays : {sc' : Scope} → d ≡ Some sc' → StaysFor tree c s s'
       declared_stays q = added-stays asked name_afforded (was-added q) c.operands
 
       -- nothing was typed
-      pub declared_turns : {sc' : Scope} → d ≡ Declared.Done sc' → TurnsStay tree s s'
+      pub declared_turns : {sc' : Scope} → d ≡ Some sc' → TurnsStay tree s s'
       declared_turns q = added-turns asked name_afforded (was-added q)
 
-      pub declared_types : {sc' : Scope} → d ≡ Declared.Done sc' → InTurn tree text s c → TypedIn tree text c s [] s'
+      pub declared_types : {sc' : Scope} → d ≡ Some sc' → InTurn tree text s c → TypedIn tree text c s [] s'
       declared_types q i = stay_typed (declared_turns q) text (scope_at tree text s c.scope) c.turn i
 
-      pub declared_leaves : {sc' : Scope} → d ≡ Declared.Done sc' → Leaves tree text 1 c s' sc'
+      pub declared_leaves : {sc' : Scope} → d ≡ Some sc' → Leaves tree text 1 c s' sc'
       declared_leaves q = added-leaves (was-added q)
 
-      pub declared_ok : {sc' : Scope} → d ≡ Declared.Done sc' → (place : ℕ)
+      pub declared_ok : {sc' : Scope} → d ≡ Some sc' → (place : ℕ)
           → declare (named_by tree text r v constant) place (scope_at tree text s c.scope) ≡ ok (scope_at tree text s' sc')
       declared_ok {sc' = sc'} q place = ap (λ (x : Variable). declare x place (scope_at tree text s c.scope)) (sym by_name) ∙ declare-ok tree text (original_of tree s r) (original_word tree s r A) (original_word tree s r B) v constant c.scope s s' sc' (was-added q) place
 
       -- taken: nothing is written, and the definition's error
-      pub taken-same : d ≡ Declared.Taken → s' ≡ s
+      pub taken-same : d ≡ None → s' ≡ s
       taken-same q = (was-taken q).same
 
-      pub taken-stays : d ≡ Declared.Taken → StaysFor tree c s s'
+      pub taken-stays : d ≡ None → StaysFor tree c s s'
       taken-stays q = rw (taken-same q) (stays_refl tree c.scope.names c.operands s)
 
-      pub declared_err : d ≡ Declared.Taken → (place : ℕ)
+      pub declared_err : d ≡ None → (place : ℕ)
           → declare (named_by tree text r v constant) place (scope_at tree text s c.scope) ≡ err AlreadyDeclared place
       declared_err q place = ap (λ (x : Variable). declare x place (scope_at tree text s c.scope)) (sym by_name) ∙ declare-err tree text (original_of tree s r) (original_word tree s r A) (original_word tree s r B) v constant c.scope s s' (was-taken q) place
 
@@ -146,9 +148,9 @@ module _ {tree text l s : List ℕ} {c : Converter} (p : Converting tree text l 
   pub var_afforded : NameAfforded c.scope made.var
   var_afforded = name_afforded p made.var few var_typed
 
-  module _ (r : ℕ) (asked : Asked tree text s c.scope r) (constant : Bool) (s' : List ℕ) {d : Declared} (m : DeclareMeets text (original_of tree s r) (original_word tree s r A) (original_word tree s r B) made.var constant c.scope s s' d)
+  module _ (r : ℕ) (asked : Asked tree text s c.scope r) (constant : Bool) (s' : List ℕ) {d : Std.Option Scope} (m : DeclareMeets text (original_of tree s r) (original_word tree s r A) (original_word tree s r B) made.var constant c.scope s s' d)
       {X : Type 0} (place : ℕ) (f : Ir.VarId → Def.Scope → M X) where
-    pub variable_then : {sc' : Scope} {n : Amount} {l' : List ℕ} {a : StepAnswer X} → d ≡ Declared.Done sc'
+    pub variable_then : {sc' : Scope} {n : Amount} {l' : List ℕ} {a : StepAnswer X} → d ≡ Some sc'
         → Meets (texts_of tree text) (f (var_of made.var) (scope_at tree text s' sc')) n made.counters l₁ l' a
         → Meets (texts_of tree text) (declared_then tree text r constant place y (scope_at tree text s c.scope) f) (both (amount 0 1 0 0 0) n) c.counters l l' a
     variable_then q i =
@@ -156,7 +158,7 @@ module _ {tree text l s : List ℕ} {c : Converter} (p : Converting tree text l 
         long (adds_in (texts_of tree text) (var_adds long new))
         (meets-lift (texts_of tree text) (λ (sc1 : Def.Scope). f (var_of made.var) sc1) new.next.room (declared_ok p made.var few var_typed r asked constant s' m q place) i)
 
-    pub variable-not : {n : Amount} {e : ConvertError} → d ≡ Declared.Taken → e ≡ record { kind = AlreadyDeclared; place = place }
+    pub variable-not : {n : Amount} {e : ConvertError} → d ≡ None → e ≡ record { kind = AlreadyDeclared; place = place }
         → Meets (texts_of tree text) (declared_then tree text r constant place y (scope_at tree text s c.scope) f) n c.counters l l₁ (refused e)
     variable-not {e = e} q w =
         meets-refused (texts_of tree text) long
@@ -167,21 +169,21 @@ module _ {tree text l s : List ℕ} {c : Converter} (p : Converting tree text l 
         (rw w (declared_err p made.var few var_typed r asked constant s' m q place)))))
 
 -- the type of a variable that is found is one of the tree's, where those of the open names are
-found_among : (v : VarId) (b : Bool) (tree text s : List ℕ) (n : ℕ) (u : List ℕ) (m : ℕ) → ((j : ℕ) → j < m → TypeAt tree (word_at s (8 * n + 16 * j + 12) / 2))
-    → IsFound (Known.Is v b) (find_in u (variables_at text s n m)) → TypeAt tree v.1
+found_among : (v : Known) (tree text s : List ℕ) (n : ℕ) (u : List ℕ) (m : ℕ) → ((j : ℕ) → j < m → TypeAt tree (word_at s (8 * n + 16 * j + 12) / 2))
+    → IsFound (Some v) (find_in u (variables_at text s n m)) → TypeAt tree v.var.1
 unfolding IsFound find_in variables_at
-found_among v b tree text s n u zero t h = absurd h
-found_among v b tree text s n u (suc m) t h =
-    go (found_among v b tree text s n u m (λ j k. t j (omega arith))) (Ir.same_text u (open_variable text s (8 * n + 16 * m)).name) h
+found_among v tree text s n u zero t h = absurd h
+found_among v tree text s n u (suc m) t h =
+    go (found_among v tree text s n u m (λ j k. t j (omega arith))) (Ir.same_text u (open_variable text s (8 * n + 16 * m)).name) h
   where
-    go : (IsFound (Known.Is v b) (find_in u (variables_at text s n m)) → TypeAt tree v.1)
-        → (c : Bool) → IsFound (Known.Is v b) (elim c [ true ↦ some (open_variable text s (8 * n + 16 * m)) | false ↦ find_in u (variables_at text s n m) ]) → TypeAt tree v.1
+    go : (IsFound (Some v) (find_in u (variables_at text s n m)) → TypeAt tree v.var.1)
+        → (c : Bool) → IsFound (Some v) (elim c [ true ↦ some (open_variable text s (8 * n + 16 * m)) | false ↦ find_in u (variables_at text s n m) ]) → TypeAt tree v.var.1
     go rest true f = subst (λ (z : ℕ). TypeAt tree z) (sym (ap (λ z. z.ty) f.0)) (t m (omega arith))
     go rest false f = rest f
 
-pub found-typed : {tree text l s : List ℕ} {c : Converter} → Converting tree text l s c → (u : List ℕ) (v : VarId) (b : Bool) → FindMeets text s c.scope u (Known.Is v b) → TypeAt tree v.1
-found-typed {tree = tree} {text = text} {s = s} {c = c} p u v b h =
-    found_among v b tree text s c.scope.records u c.scope.names
+pub found-typed : {tree text l s : List ℕ} {c : Converter} → Converting tree text l s c → (u : List ℕ) (v : Known) → FindMeets text s c.scope u (Some v) → TypeAt tree v.var.1
+found-typed {tree = tree} {text = text} {s = s} {c = c} p u v h =
+    found_among v tree text s c.scope.records u c.scope.names
     (λ j i. subst (λ (z : ℕ). TypeAt tree (word_at s (8 * z + 16 * j + 12) / 2)) (sym p.ready.scoped.records_are) (p.ready.scoped.types j i)) h
 
 -- ---- the zero of a type, by its form
@@ -287,8 +289,8 @@ module _ {tree text l s : List ℕ} {c : Converter} (p : Converting tree text l 
       omega (arith, i.below, p.ready.keyed.good.few),
     )
 
-    module _ (s' : List ℕ) {d : Declared} (m : DeclareMeets text (original_of tree s r) (original_word tree s r A) (original_word tree s r B) made.var false c.scope s s' d) where
-      pub declare-taken : {z : ConvertError} → d ≡ Declared.Taken → z ≡ record { kind = AlreadyDeclared; place = r }
+    module _ (s' : List ℕ) {d : Std.Option Scope} (m : DeclareMeets text (original_of tree s r) (original_word tree s r A) (original_word tree s r B) made.var false c.scope s s' d) where
+      pub declare-taken : {z : ConvertError} → d ≡ None → z ≡ record { kind = AlreadyDeclared; place = r }
           → StatesAs declare_steps c r tree text l s (Stated.Refused z) l₁ s'
       unfolding convert_declare program
       declare-taken {z = z} q w =
@@ -297,10 +299,10 @@ module _ {tree text l s : List ℕ} {c : Converter} (p : Converting tree text l 
           (λ (x : Ir.VarId) (S : Def.Scope). zero_value (program tree text) (all_keys tree text) r x (type_at tree text (word_of tree r C)) >> pure S) q w in
           states_refused long (n.stops z refl) (taken-stays p made.var declare-few (var_typed p long newly declare-few declare-type) r declare-asked false s' m q)
 
-      pub declare-types : {sc' : Scope} → d ≡ Declared.Done sc' → InTurn tree text s c → TypedIn tree text c s [] s'
+      pub declare-types : {sc' : Scope} → d ≡ Some sc' → InTurn tree text s c → TypedIn tree text c s [] s'
       declare-types q u = declared_types p made.var declare-few (var_typed p long newly declare-few declare-type) r declare-asked false s' m q u
 
-      module _ {sc' : Scope} (q : d ≡ Declared.Done sc') {l₂ : List ℕ} (a : Finished)
+      module _ {sc' : Scope} (q : d ≡ Some sc') {l₂ : List ℕ} (a : Finished)
           (zero : (t : List ℕ) (F : Functions) → Meets (texts_of tree t) (zero_value (program tree t) F r (var_of made.var) (type_at tree t made.var.1)) (amount 1 0 0 0 1) made.counters l₁ l₂ (finished_of tt a)) where
         zeroed : Meets (texts_of tree text) (zero_value (program tree text) (all_keys tree text) r (var_of made.var) (type_at tree text (word_of tree r C))) (amount 1 0 0 0 1) made.counters l₁ l₂ (finished_of tt a)
         zeroed =
@@ -332,55 +334,43 @@ module _ {tree text l s : List ℕ} {c : Converter} (p : Converting tree text l 
             (states_gave n.long (n.gives (scope_at tree text s' sc') k refl)
             (declared_leaves p made.var declare-few (var_typed p long newly declare-few declare-type) r declare-asked false s' m q) name_stayed)
 
--- ---- the Break or Continue r
-
--- a jump that leaves the scope
-jumps_on : (n : LabelName) (S : Def.Scope) → emit_jump n >> pure S ≡ Ir.label_id n >>= (λ (i : ℕ). Ir.emit (Ir.Jump i) >> pure S)
-unfolding emit_jump
-jumps_on n S = simp (seq_is, regroup)
+-- ---- the Break or Continue r: the jump of either, which leaves the scope
 
 module _ {tree text l s : List ℕ} {c : Converter} (p : Converting tree text l s c) (r : ℕ) where
   abbrev scope : Def.Scope
   scope = scope_at tree text s c.scope
 
-  outside-stops : {z : ConvertError} {steps : M Def.Scope} {kind : ConvertErrorKind} → steps ≡ fail kind r → z ≡ record { kind = kind; place = r }
-      → States tree text steps (behind_amount (statement_records (statement_at tree text r))) (statement_records (statement_at tree text r)) c l s (Stated.Refused z) l s
-  outside-stops {kind = kind} e w =
-      states_same (sym e) (states_refused refl (rw w (fail-stops (texts_of tree text) c.counters l kind r)) (stays_refl tree c.scope.names c.operands s))
+  -- a Break or Continue is its jump
+  pub break_states : {a : Stated} {l' s' : List ℕ} → StatesAs (λ t u i d j. loop_jump_steps t u i d j LoopEnd BreakOutOfLoop) c r tree text l s a l' s'
+      → StatesAs break_steps c r tree text l s a l' s'
+  break_states i = states_same (sym (break_parts (program tree text) (all_keys tree text) r scope.in_loop scope)) i
 
-  jump_states : {k : Counters} {l' : List ℕ} {steps : M Def.Scope} (n : LabelName) → steps ≡ Ir.label_id n >>= (λ (i : ℕ). Ir.emit (Ir.Jump i) >> pure scope)
-      → Adds (emit_jump n) (amount 1 0 1 0 0) c.counters l tt k l'
-      → States tree text steps (behind_amount (statement_records (statement_at tree text r))) (statement_records (statement_at tree text r)) c l s (Stated.Done c.scope k) l' s
-  jump_states {k = k} {l' = l'} n e a =
-      let stays = stays_refl tree c.scope.names c.operands s in
-      states_same (jumps_on n scope ∙ sym e)
-      (states_gave a.long (adds_in (texts_of tree text) (adds-most (adds_seq (pure scope) a (adds-pure scope k l' a.next.room)) (omega arith))) (leaves-same p stays) stays)
+  pub continue_states : {a : Stated} {l' s' : List ℕ} → StatesAs (λ t u i d j. loop_jump_steps t u i d j LoopStart ContinueOutOfLoop) c r tree text l s a l' s'
+      → StatesAs continue_steps c r tree text l s a l' s'
+  continue_states i = states_same (sym (continue_parts (program tree text) (all_keys tree text) r scope.in_loop scope)) i
 
-  module _ (o : InLoop) (m : loop_of o ≡ loop_number c.scope.inner) where
+  module _ (o : Std.Option ℕ) (m : loop_of o ≡ loop_number c.scope.inner) where
     loop-is : {x : Option ℕ} → loop_of o ≡ x → scope.in_loop ≡ x
     loop-is q = in_loop_lem tree text s c.scope o m ∙ q
 
     -- what the jump asks: the loop is one of the records that the tables count
-    pub jump_asks : {x : ℕ} (kind : ℕ) → 1 ≤ kind → kind ≤ 7 → BehindAfforded tree text c r → o ≡ InLoop.Of x
-        → RoomFor c.counters l (amount 1 0 1 0 0) × HasSlot c.counters.records (named kind x)
-    jump_asks {x = x} kind least most f q =
+    pub jump_asks : {x : ℕ} → BehindAfforded tree text c r → o ≡ Some x → RoomFor c.counters l (amount 1 0 1 0 0) × (x < c.counters.records)
+    jump_asks {x = x} f q =
         let h : x < records tree = p.loop x (sym m ∙ ap loop_of q) in
         (record { room = p.room; affords = omega (arith, f.tables) }, omega (arith, p.records_are))
 
-    pub break_outside : {z : ConvertError} → o ≡ InLoop.Outside → z ≡ record { kind = BreakOutOfLoop; place = r } → StatesAs break_steps c r tree text l s (Stated.Refused z) l s
-    unfolding convert_break
-    break_outside q w = outside-stops (rw (loop-is (ap loop_of q))) w
+    module _ (kind : LabelKind) (outside : ConvertErrorKind) where
+      pub jump_outside : {z : ConvertError} → o ≡ None → z ≡ record { kind = outside; place = r }
+          → StatesAs (λ t u i d j. loop_jump_steps t u i d j kind outside) c r tree text l s (Stated.Refused z) l s
+      unfolding loop_jump
+      jump_outside q w =
+          states_same {m = fail outside r} (rw (loop-is (ap loop_of q)))
+          (states_refused refl (rw w (fail-stops (texts_of tree text) c.counters l outside r)) (stays_refl tree c.scope.names c.operands s))
 
-    pub break_jumps : {x : ℕ} {k : Counters} {l' : List ℕ} → o ≡ InLoop.Of x → Adds (emit_jump (named 2 x)) (amount 1 0 1 0 0) c.counters l tt k l'
-        → StatesAs break_steps c r tree text l s (Stated.Done c.scope k) l' s
-    unfolding convert_break
-    break_jumps {x = x} q a = jump_states (named 2 x) (rw (loop-is (ap loop_of q))) a
-
-    pub continue_outside : {z : ConvertError} → o ≡ InLoop.Outside → z ≡ record { kind = ContinueOutOfLoop; place = r } → StatesAs continue_steps c r tree text l s (Stated.Refused z) l s
-    unfolding convert_continue
-    continue_outside q w = outside-stops (rw (loop-is (ap loop_of q))) w
-
-    pub continue_jumps : {x : ℕ} {k : Counters} {l' : List ℕ} → o ≡ InLoop.Of x → Adds (emit_jump (named 1 x)) (amount 1 0 1 0 0) c.counters l tt k l'
-        → StatesAs continue_steps c r tree text l s (Stated.Done c.scope k) l' s
-    unfolding convert_continue
-    continue_jumps {x = x} q a = jump_states (named 1 x) (rw (loop-is (ap loop_of q))) a
+      pub jump_states : {x : ℕ} {k : Counters} {l' : List ℕ} → o ≡ Some x → Adds (emit_jump (named (label_number kind) x)) (amount 1 0 1 0 0) c.counters l tt k l'
+          → StatesAs (λ t u i d j. loop_jump_steps t u i d j kind outside) c r tree text l s (Stated.Done c.scope k) l' s
+      unfolding loop_jump
+      jump_states {x = x} {k = k} {l' = l'} q a =
+          let stays = stays_refl tree c.scope.names c.operands s in
+          states_same {m = emit_jump (named (label_number kind) x) >> pure scope} (rw (loop-is (ap loop_of q)))
+          (states_gave a.long (adds_in (texts_of tree text) (adds-most (adds_seq (pure scope) a (adds-pure scope k l' a.next.room)) (omega arith))) (leaves-same p stays) stays)

@@ -1,5 +1,6 @@
 -- What an expression owes after each of its parts, as the code meets it: a refusal is passed on, an operand goes into what stands around it.
 -- By the laws of steps in a row; the scope stays, and the amounts are arithmetic over the records below. Assumes nothing.
+use Rattle.std.specs.Prelude.{Ok, Err}
 use mathlib.Core.Path.{◌≡◌, refl, sym, ap, ◌∙◌, subst}
 use mathlib.Core.Bool.{Bool, true, false}
 use mathlib.Core.List.{List}
@@ -37,9 +38,8 @@ use Rattle.ir.specs.Instructions.{operand_of, var_of}
 use Rattle.ir.proofs.Operators.{binary_in_lem}
 use Rattle.scope.specs.Open.{scope_at}
 use Rattle.keys.specs.Keys.{all_keys}
-use Rattle.expressions.specs.declared.answers.ExprType.{ExprType}
 use Rattle.expressions.specs.Slots.{type_in}
-use Rattle.expressions.specs.Answers.{refusal, type_result, TypeMeets}
+use Rattle.expressions.specs.Answers.{Answer, refusal, type_result, TypeMeets}
 use Rattle.expressions.proofs.SlotLaws.{scope-frame}
 use Rattle.expressions.proofs.TypingLaws.{type-ok, type-refused, expr-low, operand-expr}
 use Rattle.statements.specs.Lent.{Converter, Converted, Fitted}
@@ -105,7 +105,7 @@ part_of {tree = tree} {text = text} {l = l} {l₁ = l₁} {s = s} {s₁ = s₁} 
 
 -- ---- an expression, once it is typed
 
-module _ {tree text l s : List ℕ} {c : Converter} {e : ℕ} (p : Converting tree text l s c) (x : IsExpr tree e) {ty : ExprType} {s₁ : List ℕ}
+module _ {tree text l s : List ℕ} {c : Converter} {e : ℕ} (p : Converting tree text l s c) (x : IsExpr tree e) {ty : Answer ℕ} {s₁ : List ℕ}
     (m : TypeMeets tree text s c.scope c.turn e ty s₁) where
   abbrev S : Def.Scope
   S = scope_at tree text s c.scope
@@ -122,7 +122,7 @@ module _ {tree text l s : List ℕ} {c : Converter} {e : ℕ} (p : Converting tr
   typed_stays : StaysFor tree c s s₁
   typed_stays = frame-stays c.scope.names c.operands m.frame
 
-  stop-by : (f : ℕ → M Ir.Operand) {z : ConvertError} → expr_in tree text S e ≡ lift (type_in tree text S e) >>= f → ty ≡ ExprType.Refused z
+  stop-by : (f : ℕ → M Ir.Operand) {z : ConvertError} → expr_in tree text S e ≡ lift (type_in tree text S e) >>= f → ty ≡ Err z
       → Converts tree text (expr_steps tree text s c e) (expr_amount (under (expr_at tree text e))) c l s (Converted.Refused z) l s₁
   unfolding refusal
   stop-by f {z} q w = converts-same (sym q) (record {
@@ -132,7 +132,7 @@ module _ {tree text l s : List ℕ} {c : Converter} {e : ℕ} (p : Converting tr
     names = frame-names m.frame;
   })
 
-  pub typed-stop : {z : ConvertError} {k : ℕ} → k ≡ kind_of tree e → 8 < k → ty ≡ ExprType.Refused z
+  pub typed-stop : {z : ConvertError} {k : ℕ} → k ≡ kind_of tree e → 8 < k → ty ≡ Err z
       → Converts tree text (expr_steps tree text s c e) (expr_amount (under (expr_at tree text e))) c l s (Converted.Refused z) l s₁
   typed-stop {z} {k} ek n w =
       let most : kind_of tree e ≤ 11 = leb-true (kind_of tree e) 11 (and_right (leb 2 (kind_of tree e)) (leb (kind_of tree e) 11) x.expression) in
@@ -147,7 +147,7 @@ module _ {tree text l s : List ℕ} {c : Converter} {e : ℕ} (p : Converting tr
           let h₁₀ : kind_of tree e ≡ 10 → ⊥ = eqb-false (kind_of tree e) 10 b in
           omega (arith, n, ek, h₉, h₁₀)
 
-  typed-by : (f : Def.Scope → ℕ → M Ir.Operand) {y : ℕ} {b : Converted} {l₁ s₂ : List ℕ} → expr_in tree text S e ≡ lift (type_in tree text S e) >>= f S → ty ≡ ExprType.Is y
+  typed-by : (f : Def.Scope → ℕ → M Ir.Operand) {y : ℕ} {b : Converted} {l₁ s₂ : List ℕ} → expr_in tree text S e ≡ lift (type_in tree text S e) >>= f S → ty ≡ Ok y
       → Converts tree text (f (scope_at tree text s₁ c.scope) y) (expr_amount (under (expr_at tree text e))) c l s₁ b l₁ s₂
       → Converts tree text (expr_steps tree text s c e) (expr_amount (under (expr_at tree text e))) c l s b l₁ s₂
   typed-by f {y} q w i =
@@ -159,7 +159,7 @@ module _ {tree text l s : List ℕ} {c : Converter} {e : ℕ} (p : Converting tr
         names = names_then (frame-names m.frame) i'.names;
       })
 
-  module _ {y k : ℕ} {b : Converted} {l₁ s₂ : List ℕ} (ek : k ≡ kind_of tree e) (w : ty ≡ ExprType.Is y) where
+  module _ {y k : ℕ} {b : Converted} {l₁ s₂ : List ℕ} (ek : k ≡ kind_of tree e) (w : ty ≡ Ok y) where
     pub typed-unary : k ≡ 9 → Converts tree text (unary_steps tree text s₁ c e y) (expr_amount (under (expr_at tree text e))) c l s₁ b l₁ s₂
         → Converts tree text (expr_steps tree text s c e) (expr_amount (under (expr_at tree text e))) c l s b l₁ s₂
     typed-unary q i = typed-by (λ Z y. unary_in tree text Z e y) (steps-unary tree text S good e (expr-low tree text good e x) (sym ek ∙ q)) w i
@@ -264,7 +264,7 @@ unfolding operand_type E.◌>>=◌
 common-ok (ok o) y q e = record { common = o; is = refl; fitted = cc }
 common-ok (err k r) y q e = let z : ◌≡◌ {A = ℕ} 0 1 = cc in absurd (omega arith)
 
-module _ {tree text l s : List ℕ} {c : Converter} {e y : ℕ} (p : Converting tree text l s c) (x : IsKind tree 10 e) {t : ExprType} {s₁ : List ℕ}
+module _ {tree text l s : List ℕ} {c : Converter} {e y : ℕ} (p : Converting tree text l s c) (x : IsKind tree 10 e) {t : Answer ℕ} {s₁ : List ℕ}
     (m : OperandTyped tree text s c e y t s₁) where
   abbrev T : Def.Scope
   T = scope_at tree text s c.scope
@@ -279,7 +279,7 @@ module _ {tree text l s : List ℕ} {c : Converter} {e y : ℕ} (p : Converting 
   pub fitted_converting : Converting tree text l s₁ c
   fitted_converting = converting_frame p m.frame
 
-  pub fitted-stop : {z : ConvertError} → t ≡ ExprType.Refused z
+  pub fitted-stop : {z : ConvertError} → t ≡ Err z
       → Converts tree text (binary_steps tree text s c e y) (expr_amount (under (expr_at tree text e))) c l s (Converted.Refused z) l s₁
   unfolding convert_binary type_result refusal
   fitted-stop {z} w = record {
@@ -289,7 +289,7 @@ module _ {tree text l s : List ℕ} {c : Converter} {e y : ℕ} (p : Converting 
     names = frame-names m.frame;
   }
 
-  module _ {q : ℕ} {b : Converted} {l₁ s₂ : List ℕ} (w : t ≡ ExprType.Is q) where
+  module _ {q : ℕ} {b : Converted} {l₁ s₂ : List ℕ} (w : t ≡ Ok q) where
     fitted-by : (g : Def.Scope → M Ir.Operand) → ((o : Option ℕ) → unwrap_or y o ≡ q → g T ≡ by o)
         → Converts tree text (g (scope_at tree text s₁ c.scope)) (expr_amount (under (expr_at tree text e))) c l s₁ b l₁ s₂
         → Converts tree text (binary_steps tree text s c e y) (expr_amount (under (expr_at tree text e))) c l s b l₁ s₂

@@ -1,7 +1,9 @@
 -- Fitting as the code meets it: a float that takes another mark, a variable that is cast, an operand by the form of its place's type, the
 -- parameters' types one by one, and the check before. By the cases of the types and of the tests. Assumes nothing.
+use Rattle.std.specs.Prelude.{Ok, Err}
 use mathlib.Core.Path.{◌≡◌, refl, sym, ap, ◌∙◌, subst}
 use mathlib.Core.Bool.{Bool, true, false, not, ◌&&◌}
+use mathlib.Core.Logic.{◌⊎◌, inl, inr}
 use mathlib.Core.List.{List, [], ◌∷◌}
 use Prim.Native.Nat.{ℕ, zero, suc, ◌%◌}
 use native.Mathlib.Omega.{arith}
@@ -41,7 +43,6 @@ use Rattle.ir.proofs.AmountLaws.{both-spent}
 use Rattle.laws.proofs.FixLaws.{pick_yes, pick_no}
 use Rattle.ir.proofs.StepCases.{on_int_lem, on_float_lem, no_int, no_float_lem}
 use Rattle.ir.proofs.StepUses.{refloat-next, cast-next}
-use Rattle.expressions.specs.declared.answers.Outcome.TheVariants as Outcome
 use Rattle.expressions.specs.Answers.{refusal, outcome_of}
 use Rattle.expressions.proofs.ArgumentLaws.{place_is}
 use Rattle.statements.specs.Lent.{Fitted}
@@ -209,20 +210,12 @@ module _ {tree : List ℕ} (text : List ℕ) {k : Counters} {l : List ℕ} (o : 
 
   -- one that is fitted to every type
   module _ (room : Room k l) where
-    pub bool-fits : (b : Bool) → o ≡ Operand.Bool b
+    pub plain-fits : ((b : Bool) × (o ≡ Operand.Bool b)) ⊎ (((i : ℕ) × (o ≡ Operand.DataAddress i)) ⊎ (o ≡ Operand.Null))
         → FitAdds tree (fit_operand (program tree text) (operand_of o) y) (amount 1 1 0 0 1) k l (record { operand = o; counters = k }) l
     unfolding fit_operand OperandIn
-    bool-fits b e = rw e (stays_as (Operand.Bool b) refl tt room)
-
-    pub string_fits : (i : ℕ) → o ≡ Operand.DataAddress i
-        → FitAdds tree (fit_operand (program tree text) (operand_of o) y) (amount 1 1 0 0 1) k l (record { operand = o; counters = k }) l
-    unfolding fit_operand OperandIn
-    string_fits i e = rw e (stays_as (Operand.DataAddress i) refl tt room)
-
-    pub null_fits : o ≡ Operand.Null
-        → FitAdds tree (fit_operand (program tree text) (operand_of o) y) (amount 1 1 0 0 1) k l (record { operand = o; counters = k }) l
-    unfolding fit_operand OperandIn
-    null_fits e = rw e (stays_as Operand.Null refl tt room)
+    plain-fits (inl b) = rw b.1 (stays_as (Operand.Bool b.0) refl tt room)
+    plain-fits (inr (inl i)) = rw i.1 (stays_as (Operand.DataAddress i.0) refl tt room)
+    plain-fits (inr (inr e)) = rw e (stays_as Operand.Null refl tt room)
 
 -- a variable that is one of the operands
 pub variable_in_lem : (tree : List ℕ) (o : Operand) (v : VarId) → o ≡ Operand.Var v → OperandIn tree (operand_of o) → TypeAt tree v.1
@@ -257,20 +250,20 @@ module _ (tree text : List ℕ) (good : Good tree text) (w : ℕ) (p : ParamsAt 
 
 module _ (tree text : List ℕ) (F : Functions) (e y expected : ℕ) (kind : ConvertErrorKind) (place : ℕ) where
   pub check_done : fits_at tree text e y expected ≡ true
-      → check_fits (program tree text) F (expr_at tree text e) y expected kind place ≡ lift (outcome_of Outcome.Done)
+      → check_fits (program tree text) F (expr_at tree text e) y expected kind place ≡ lift (outcome_of (Ok tt))
   unfolding check_fits program fits_at expr_at outcome_of pure lift
   check_done h = pick_yes (fits_at tree text e y expected) _ _ h
 
   module _ (no : fits_at tree text e y expected ≡ false) where
     pub check_range : IsExpr tree e → range_error_at tree text e y expected ≡ true → (x : ConvertError) → x ≡ record { kind = LiteralOutOfRange; place = e }
-        → check_fits (program tree text) F (expr_at tree text e) y expected kind place ≡ lift (outcome_of (Outcome.Refused x))
+        → check_fits (program tree text) F (expr_at tree text e) y expected kind place ≡ lift (outcome_of (Err x))
     unfolding check_fits program fits_at range_error_at expr_at outcome_of refusal fail lift
     check_range is h x ex =
         pick_no (fits_at tree text e y expected) _ _ no ∙ pick_yes (range_error_at tree text e y expected) _ _ h
         ∙ rw (ex, place_is tree text e is.expression)
 
     pub check-place : range_error_at tree text e y expected ≡ false → (x : ConvertError) → x ≡ record { kind = kind; place = place }
-        → check_fits (program tree text) F (expr_at tree text e) y expected kind place ≡ lift (outcome_of (Outcome.Refused x))
+        → check_fits (program tree text) F (expr_at tree text e) y expected kind place ≡ lift (outcome_of (Err x))
     unfolding check_fits program fits_at range_error_at expr_at outcome_of refusal fail lift
     check-place h x ex =
         pick_no (fits_at tree text e y expected) _ _ no ∙ pick_no (range_error_at tree text e y expected) _ _ h ∙ rw ex

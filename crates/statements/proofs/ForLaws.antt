@@ -1,5 +1,7 @@
 -- The head of a For as the code meets it: its variable, the check of its bounds, its turns; and what its words refer to.
 -- By the laws of steps in a row and what the search for a name finds; the scope stays as long as its names do. Assumes nothing.
+use Rattle.std.specs.Prelude as Std
+use Rattle.std.specs.Prelude.{Ok, Err, Some, None}
 use mathlib.Core.Path.{◌≡◌, refl, sym, ap, ◌∙◌, subst, fun_ext}
 use mathlib.Core.Logic.{◌⊎◌, inl, inr}
 use mathlib.Core.Bool.{Bool, true, false}
@@ -40,17 +42,14 @@ use Rattle.laws.proofs.FixLaws.{pick_yes, pick_no}
 use Rattle.ir.proofs.StepCases.{on_int_lem, no_int, stop-of}
 use Rattle.ir.proofs.StepLaws.{lift-stops, stop-first, stop_seq}
 use Rattle.scope.specs.declared.Scope.{Scope}
-use Rattle.scope.specs.declared.Declared.{Declared}
 use Rattle.scope.specs.declared.Known.{Known}
 use Rattle.scope.specs.Open.{scope_at, NameAfforded, DeclareMeets, FindMeets}
 use Rattle.scope.proofs.ScopeLaws.{Finds, find_some, find_unknown}
 use Rattle.keys.specs.Keys.{all_keys}
-use Rattle.expressions.specs.declared.answers.ExprType.{ExprType}
-use Rattle.expressions.specs.declared.answers.Outcome.{Outcome}
 use Rattle.texts.specs.Texts.{has_text}
 use Rattle.expressions.specs.Slots.{original_of, original_word, Asked, Ready, Scoped, type_in}
 use Rattle.expressions.proofs.OriginalLaws.{kind-asked}
-use Rattle.expressions.specs.Answers.{refusal, outcome_of, TypeMeets}
+use Rattle.expressions.specs.Answers.{Answer, refusal, outcome_of, TypeMeets}
 use Rattle.expressions.proofs.SlotLaws.{scope-frame, frame_trans}
 use Rattle.expressions.proofs.TypingLaws.{type-ok, type-refused, is-typed, expr-low, place_is}
 use Rattle.statements.specs.Lent.{Converter, Stated, Finished, ForVariable}
@@ -111,8 +110,8 @@ abbrev bounds_at : List ℕ → List ℕ → List ℕ → Scope → ℕ → ℕ 
 bounds_at tree text s sc r y =
     for_bounds (program tree text) (all_keys tree text) y (expr_at tree text (word_of tree r B)) (expr_at tree text (word_of tree r C)) (scope_at tree text s sc)
 
-module _ {tree text s s₁ : List ℕ} {turn : ℕ} {sc : Scope} {e : ℕ} {t : ExprType} (y : ℕ) (p : Ready tree text s sc) (is : IsExpr tree e) (m : TypeMeets tree text s sc turn e t s₁) where
-  pub bound_asks : {q : ℕ} → TypeAt tree y → t ≡ ExprType.Is q → IsExpr tree e × IsType tree q × IsType tree y × (e < 4294967296) × (e < 4294967296)
+module _ {tree text s s₁ : List ℕ} {turn : ℕ} {sc : Scope} {e : ℕ} {t : Answer ℕ} (y : ℕ) (p : Ready tree text s sc) (is : IsExpr tree e) (m : TypeMeets tree text s sc turn e t s₁) where
+  pub bound_asks : {q : ℕ} → TypeAt tree y → t ≡ Ok q → IsExpr tree e × IsType tree q × IsType tree y × (e < 4294967296) × (e < 4294967296)
   bound_asks {q} h w =
       let good = p.keyed.good in
       let ty = is-typed tree t q m.typed w in
@@ -122,14 +121,14 @@ module _ {tree text s s₁ : List ℕ} {turn : ℕ} {sc : Scope} {e : ℕ} {t : 
   abbrev rest : ℕ → M (Unit {0})
   rest q = check_fits (program tree text) (all_keys tree text) (expr_at tree text e) q y NotInteger (place (expr_at tree text e))
 
-  pub bound_not : {x : ConvertError} → t ≡ ExprType.Refused x → Checks tree (bound_at tree text s sc e y) s (Outcome.Refused x) s₁
+  pub bound_not : {x : ConvertError} → t ≡ Err x → Checks tree (bound_at tree text s sc e y) s (Err x) s₁
   unfolding check_bound type_in outcome_of refusal
   bound_not {x} w = record {
     meets = lift-not (type_in tree text (scope_at tree text s sc) e) rest x.kind x.place (type-refused (type_in tree text (scope_at tree text s sc) e) t x m.meets w);
     frame = m.frame;
   }
 
-  pub bound_is : {q : ℕ} {a : Outcome} → t ≡ ExprType.Is q
+  pub bound_is : {q : ℕ} {a : Answer (Unit {0})} → t ≡ Ok q
       → ((u : List ℕ) (F : Functions) → check_fits (program tree u) F (expr_at tree u e) q y NotInteger e ≡ lift (outcome_of a))
       → Checks tree (bound_at tree text s sc e y) s a s₁
   unfolding check_bound type_in
@@ -141,41 +140,41 @@ module _ {tree text s s₁ : List ℕ} {turn : ℕ} {sc : Scope} {e : ℕ} {t : 
   }
 
 -- both bounds, before either is converted
-module _ (tree text s : List ℕ) (sc : Scope) (r y : ℕ) {s₁ : List ℕ} {b : ℕ} {o : Outcome} (eb : b ≡ word_of tree r B) (m : Checks tree (bound_at tree text s sc b y) s o s₁) where
+module _ (tree text s : List ℕ) (sc : Scope) (r y : ℕ) {s₁ : List ℕ} {b : ℕ} {o : Answer (Unit {0})} (eb : b ≡ word_of tree r B) (m : Checks tree (bound_at tree text s sc b y) s o s₁) where
   first-is : bound_at tree text s sc (word_of tree r B) y ≡ lift (outcome_of o)
   first-is = ap (λ (z : ℕ). bound_at tree text s sc z y) (sym eb) ∙ m.meets
 
   abbrev second : M (Unit {0})
   second = bound_at tree text s sc (word_of tree r C) y
 
-  pub bounds_not : {x : ConvertError} → o ≡ Outcome.Refused x → Checks tree (bounds_at tree text s sc r y) s (Outcome.Refused x) s₁
+  pub bounds_not : {x : ConvertError} → o ≡ Err x → Checks tree (bounds_at tree text s sc r y) s (Err x) s₁
   unfolding for_bounds outcome_of refusal
   bounds_not {x} w = record {
-    meets = ap (λ (z : M (Unit {0})). z >> second) (first-is ∙ ap (λ (z : Outcome). lift (outcome_of z)) w)
-        ∙ seq_is (lift (outcome_of (Outcome.Refused x))) second
-        ∙ lift-not (outcome_of (Outcome.Refused x)) (λ (u : Unit {0}). second) x.kind x.place refl;
+    meets = ap (λ (z : M (Unit {0})). z >> second) (first-is ∙ ap (λ (z : Answer (Unit {0})). lift (outcome_of z)) w)
+        ∙ seq_is (lift (outcome_of (Err x))) second
+        ∙ lift-not (outcome_of (Err x)) (λ (u : Unit {0}). second) x.kind x.place refl;
     frame = m.frame;
   }
 
-  pub bounds_then : {d : ℕ} {a : Outcome} {s₂ : List ℕ} → Scoped tree s sc → o ≡ Outcome.Done → d ≡ word_of tree r C
+  pub bounds_then : {d : ℕ} {a : Answer (Unit {0})} {s₂ : List ℕ} → Scoped tree s sc → o ≡ Ok tt → d ≡ word_of tree r C
       → Checks tree (bound_at tree text s₁ sc d y) s₁ a s₂ → Checks tree (bounds_at tree text s sc r y) s a s₂
   unfolding for_bounds outcome_of
   bounds_then er w ed n = record {
-    meets = ap (λ (z : M (Unit {0})). z >> second) (first-is ∙ ap (λ (z : Outcome). lift (outcome_of z)) w)
-        ∙ seq_is (lift (outcome_of Outcome.Done)) second
-        ∙ lift_then (outcome_of Outcome.Done) (λ (u : Unit {0}). second) tt refl
+    meets = ap (λ (z : M (Unit {0})). z >> second) (first-is ∙ ap (λ (z : Answer (Unit {0})). lift (outcome_of z)) w)
+        ∙ seq_is (lift (outcome_of (Ok tt))) second
+        ∙ lift_then (outcome_of (Ok tt)) (λ (u : Unit {0}). second) tt refl
         ∙ ap (λ (S : Def.Scope). check_bound (program tree text) (all_keys tree text) (expr_at tree text (word_of tree r C)) y S) (sym (scope-frame tree s s₁ m.frame text sc er))
         ∙ ap (λ (z : ℕ). bound_at tree text s₁ sc z y) (sym ed) ∙ n.meets;
     frame = frame_trans m.frame n.frame;
   }
 
 -- a refusal owes nothing
-pub refused_outcome : {X : Type 0} {x : ConvertError} → Outcome.Refused x ≡ Outcome.Done → X
+pub refused_outcome : {X : Type 0} {x : ConvertError} → ◌≡◌ {A = Answer (Unit {0})} (Err x) (Ok (tt {0})) → X
 refused_outcome q = let z : ◌≡◌ {A = ℕ} 0 1 = cc in absurd (omega arith)
 
 -- what a check types in a turn, and then more of the turn
-module _ {tree text s s₁ : List ℕ} (c : Converter) {m : M (Unit {0})} {o : Outcome} {a : List ℕ} (er : Scoped tree s c.scope) (b : Checks tree m s o s₁)
-    (t : o ≡ Outcome.Done → TypedIn tree text c s a s₁) (d : o ≡ Outcome.Done) where
+module _ {tree text s s₁ : List ℕ} (c : Converter) {m : M (Unit {0})} {o : Answer (Unit {0})} {a : List ℕ} (er : Scoped tree s c.scope) (b : Checks tree m s o s₁)
+    (t : o ≡ Ok tt → TypedIn tree text c s a s₁) (d : o ≡ Ok tt) where
   checked_scope : scope_at tree text s₁ c.scope ≡ scope_at tree text s c.scope
   checked_scope = scope-frame tree s s₁ b.frame text c.scope er
 
@@ -185,8 +184,8 @@ module _ {tree text s s₁ : List ℕ} (c : Converter) {m : M (Unit {0})} {o : O
   pub checked_next : {e s₂ : List ℕ} → TypedIn tree text c s₁ e s₂ → TypedIn tree text c s (a ++ e) s₂
   checked_next u = typed-next c checked_scope (t d) u
 
-pub bounds_typed : {tree text s s₁ s₂ : List ℕ} (c : Converter) (r : ℕ) {b d : ℕ} {m : M (Unit {0})} {o a : Outcome} → Scoped tree s c.scope → Checks tree m s o s₁
-    → ChecksTyped bound_types c b tree text s o s₁ → o ≡ Outcome.Done → b ≡ word_of tree r B → d ≡ word_of tree r C → ChecksTyped bound_types c d tree text s₁ a s₂
+pub bounds_typed : {tree text s s₁ s₂ : List ℕ} (c : Converter) (r : ℕ) {b d : ℕ} {m : M (Unit {0})} {o a : Answer (Unit {0})} → Scoped tree s c.scope → Checks tree m s o s₁
+    → ChecksTyped bound_types c b tree text s o s₁ → o ≡ Ok tt → b ≡ word_of tree r B → d ≡ word_of tree r C → ChecksTyped bound_types c d tree text s₁ a s₂
     → ChecksTyped bounds_types c r tree text s a s₂
 bounds_typed {tree} {text} {s} {s₂ = s₂} c r {b} {d} er m t w eb ed u q =
     subst (λ (z : ℕ). TypedIn tree text c s (bound_types tree text z ++ bound_types tree text (word_of tree r C)) s₂) eb
@@ -230,7 +229,7 @@ variable-asked h i e = kind-asked 24 refl h (variable-is h.keyed.good i e)
 -- ---- a variable of the blocks around
 
 module _ {tree text l s : List ℕ} {c : Converter} (r : ℕ) {v : ℕ} (p : Converting tree text l s c) (ev : v ≡ word_of tree r A) (free : word_of tree v C ≡ none)
-    (a : Known) (m : FindMeets text s c.scope (text_of tree text v A) a) where
+    (a : Std.Option Known) (m : FindMeets text s c.scope (text_of tree text v A) a) where
   known-steps : for_variable_steps tree text s c r
       ≡ known_variable (program tree text) (all_keys tree text) r (find_variable (text_of tree text v A) (scope_in tree text s c)) (scope_in tree text s c)
   unfolding for_variable reference
@@ -238,38 +237,38 @@ module _ {tree text l s : List ℕ} {c : Converter} (r : ℕ) {v : ℕ} (p : Con
       ap (λ (z : ℕ). for_variable (program tree text) (all_keys tree text) r (text_of tree text z A) (reference (word_of tree z C)) (scope_in tree text s c)) (sym ev)
       ∙ rw (pick_yes (eqb (word_of tree v C) none) nothing (some (word_of tree v C)) (eq-eqb (word_of tree v C) none free))
 
-  met : (k : Known) → a ≡ k → FindMeets text s c.scope (text_of tree text v A) k
-  met k q = subst (λ (z : Known). FindMeets text s c.scope (text_of tree text v A) z) q m
+  met : (k : Std.Option Known) → a ≡ k → FindMeets text s c.scope (text_of tree text v A) k
+  met k q = subst (λ (z : Std.Option Known). FindMeets text s c.scope (text_of tree text v A) z) q m
 
   refuses : {d : ConvertErrorKind} {x : ConvertError} → for_variable_steps tree text s c r ≡ fail d r → x ≡ record { kind = d; place = r }
       → FindsVariable tree text (for_variable_steps tree text s c r) c l s (ForVariable.Refused x) l s
   refuses e w = variable-refused refl (stop-of e (fails_as (texts_of tree text) w)) (stays_refl tree c.scope.names c.operands s)
 
-  pub known-not : {x : ConvertError} → a ≡ Known.Unknown → x ≡ record { kind = UnknownVariable; place = r }
+  pub known-not : {x : ConvertError} → a ≡ None → x ≡ record { kind = UnknownVariable; place = r }
       → FindsVariable tree text (for_variable_steps tree text s c r) c l s (ForVariable.Refused x) l s
   unfolding known_variable
-  known-not q w = refuses (known-steps ∙ rw (find_unknown tree text s c.scope (text_of tree text v A) (met Known.Unknown q))) w
+  known-not q w = refuses (known-steps ∙ rw (find_unknown tree text s c.scope (text_of tree text v A) (met None q))) w
 
-  module _ {x : VarId} {b : Bool} (q : a ≡ Known.Is x b) where
-    found : Finds (text_of tree text v A) (scope_in tree text s c) x b
-    found = find_some tree text s c.scope (text_of tree text v A) x b (met (Known.Is x b) q)
+  module _ {y : Known} (q : a ≡ Some y) where
+    found : Finds (text_of tree text v A) (scope_in tree text s c) y.var y.constant
+    found = find_some tree text s c.scope (text_of tree text v A) y (met (Some y) q)
 
-    found-steps : for_variable_steps tree text s c r ≡ pick b (fail AssignToConstant r) (pure (var_of x, scope_in tree text s c))
+    found-steps : for_variable_steps tree text s c r ≡ pick y.constant (fail AssignToConstant r) (pure (var_of y.var, scope_in tree text s c))
     unfolding known_variable
     found-steps =
         known-steps ∙ rw found.found
         (ap (λ (z : Bool). pick z (fail AssignToConstant r) (pure (found.holder.var_id, scope_in tree text s c))) found.fixed
-        ∙ ap (λ (z : Ir.VarId). pick b (fail AssignToConstant r) (pure (z, scope_in tree text s c))) found.var)
+        ∙ ap (λ (z : Ir.VarId). pick y.constant (fail AssignToConstant r) (pure (z, scope_in tree text s c))) found.var)
 
-    pub known_fixed : {z : ConvertError} → b ≡ true → z ≡ record { kind = AssignToConstant; place = r }
+    pub known_fixed : {z : ConvertError} → y.constant ≡ true → z ≡ record { kind = AssignToConstant; place = r }
         → FindsVariable tree text (for_variable_steps tree text s c r) c l s (ForVariable.Refused z) l s
-    known_fixed h w = refuses (found-steps ∙ pick_yes b (fail AssignToConstant r) (pure (var_of x, scope_in tree text s c)) h) w
+    known_fixed h w = refuses (found-steps ∙ pick_yes y.constant (fail AssignToConstant r) (pure (var_of y.var, scope_in tree text s c)) h) w
 
-    pub known_is : b ≡ false → FindsVariable tree text (for_variable_steps tree text s c r) c l s (ForVariable.Is x c.scope c.counters) l s
+    pub known_is : y.constant ≡ false → FindsVariable tree text (for_variable_steps tree text s c r) c l s (ForVariable.Is y.var c.scope c.counters) l s
     known_is h = variable-gave refl
-        (adds_in (texts_of tree text) (adds_same (sym (found-steps ∙ pick_no b (fail AssignToConstant r) (pure (var_of x, scope_in tree text s c)) h))
-        (adds-most (adds-pure (var_of x, scope_in tree text s c) c.counters l p.room) (omega arith))))
-        (found-typed p (text_of tree text v A) x b (met (Known.Is x b) q))
+        (adds_in (texts_of tree text) (adds_same (sym (found-steps ∙ pick_no y.constant (fail AssignToConstant r) (pure (var_of y.var, scope_in tree text s c)) h))
+        (adds-most (adds-pure (var_of y.var, scope_in tree text s c) c.counters l p.room) (omega arith))))
+        (found-typed p (text_of tree text v A) y (met (Some y) q))
         (leaves-same p (stays_refl tree c.scope.names c.operands s)) (stays_refl tree c.scope.names c.operands s)
 
 -- ---- the variable that it declares
@@ -299,8 +298,8 @@ module _ {tree text l s : List ℕ} {c : Converter} {r v : ℕ} (p : Converting 
         ∙ rw (pick_no (eqb (word_of tree v C) none) nothing (some (word_of tree v C)) (ne_eqb (word_of tree v C) none (λ e. omega (arith, t.below, p.ready.keyed.good.few))))
         (ap (λ (z : ℕ). declared_then tree text v false r z (scope_in tree text s c) declared) (sym ey)))
 
-    module _ (s' : List ℕ) {d : Declared} (m : DeclareMeets text (original_of tree s v) (original_word tree s v A) (original_word tree s v B) made.var false c.scope s s' d) where
-      pub for_taken : {e : ConvertError} → d ≡ Declared.Taken → e ≡ record { kind = AlreadyDeclared; place = r }
+    module _ (s' : List ℕ) {d : Std.Option Scope} (m : DeclareMeets text (original_of tree s v) (original_word tree s v A) (original_word tree s v B) made.var false c.scope s s' d) where
+      pub for_taken : {e : ConvertError} → d ≡ None → e ≡ record { kind = AlreadyDeclared; place = r }
           → FindsVariable tree text (for_variable_steps tree text s c r) c l s (ForVariable.Refused e) l₁ s'
       for_taken q w = record {
         meets = meets-same (texts_of tree text) declared_steps (variable-not p long new few typed v asked false s' m r declared q w);
@@ -308,7 +307,7 @@ module _ {tree text l s : List ℕ} {c : Converter} {r v : ℕ} (p : Converting 
         stays = taken-stays p made.var few (var_typed p long new few typed) v asked false s' m q;
       }
 
-      pub for_done : {sc : Scope} → d ≡ Declared.Done sc
+      pub for_done : {sc : Scope} → d ≡ Some sc
           → FindsVariable tree text (for_variable_steps tree text s c r) c l s (ForVariable.Is made.var sc made.counters) l₁ s'
       for_done {sc} q = variable-gave long
           ((meets-same (texts_of tree text) declared_steps (variable_then p long new few typed v asked false s' m r declared q
@@ -317,13 +316,13 @@ module _ {tree text l s : List ℕ} {c : Converter} {r v : ℕ} (p : Converting 
           (var_typed p long new few typed) (declared_leaves p made.var few (var_typed p long new few typed) v asked false s' m q)
           (declared_stays p made.var few (var_typed p long new few typed) v asked false s' m q)
 
-      pub declared_none : {sc : Scope} → d ≡ Declared.Done sc → InTurn tree text s c → VariableTyped c tree text s (ForVariable.Is made.var sc made.counters) s'
+      pub declared_none : {sc : Scope} → d ≡ Some sc → InTurn tree text s c → VariableTyped c tree text s (ForVariable.Is made.var sc made.counters) s'
       declared_none q u x sc k e = declared_types p made.var few (var_typed p long new few typed) v asked false s' m q u
 
 -- ---- the turns: x is the variable
 
 -- what is only checked leaves the tables
-pub checks_converting : {tree text l s s₁ : List ℕ} {c : Converter} {m : M (Unit {0})} {o : Outcome} → Converting tree text l s c → Checks tree m s o s₁ → Converting tree text l s₁ c
+pub checks_converting : {tree text l s s₁ : List ℕ} {c : Converter} {m : M (Unit {0})} {o : Answer (Unit {0})} → Converting tree text l s c → Checks tree m s o s₁ → Converting tree text l s₁ c
 checks_converting p b = converting_frame p b.frame
 
 module _ {tree text l s : List ℕ} {c : Converter} (x : VarId) (r : ℕ) (p : Converting tree text l s c) {f : ℕ} (ef : f ≡ detail_of tree x.1 % 16) where
@@ -343,7 +342,7 @@ module _ {tree text l s : List ℕ} {c : Converter} (x : VarId) (r : ℕ) (p : C
       (stop-of (no_int (type_at tree text x.1) (fail NotInteger r) marked ((forms_are tree text x.1 f ef).0 ∙ ne_eqb f 1 h)) (fails_as (texts_of tree text) w))
       (stays_refl tree c.scope.names c.operands s)
 
-  module _ (i : f ≡ 1) {o : Outcome} {s₁ : List ℕ} (b : Checks tree (for_bounds_steps tree text s c r x.1) s o s₁) where
+  module _ (i : f ≡ 1) {o : Answer (Unit {0})} {s₁ : List ℕ} (b : Checks tree (for_bounds_steps tree text s c r x.1) s o s₁) where
     int_steps : for_turns_steps tree text s c x r ≡ lift (outcome_of o) >> turns
     unfolding for_turns program
     int_steps =
@@ -353,14 +352,14 @@ module _ {tree text l s : List ℕ} {c : Converter} (x : VarId) (r : ℕ) (p : C
     bounds_stay : StaysFor tree c s s₁
     bounds_stay = frame-stays c.scope.names c.operands b.frame
 
-    pub turns_bounds_not : {n : Amount} {e : ConvertError} → o ≡ Outcome.Refused e
+    pub turns_bounds_not : {n : Amount} {e : ConvertError} → o ≡ Err e
         → Finishes tree text (for_turns_steps tree text s c x r) tt n c l s (Finished.Refused e) l s₁
     unfolding outcome_of refusal
     turns_bounds_not {e = e} w = finishes_refused refl
-        (stop-of (int_steps ∙ ap (λ (z : Outcome). lift (outcome_of z) >> turns) w)
-        (stop_seq (texts_of tree text) turns (lift-stops (texts_of tree text) (outcome_of (Outcome.Refused e)) c.counters l e.kind e.place refl))) bounds_stay
+        (stop-of (int_steps ∙ ap (λ (z : Answer (Unit {0})). lift (outcome_of z) >> turns) w)
+        (stop_seq (texts_of tree text) turns (lift-stops (texts_of tree text) (outcome_of (Err e)) c.counters l e.kind e.place refl))) bounds_stay
 
-    module _ (d : o ≡ Outcome.Done) {n₁ : Amount} {a : Finished} {l₂ s₂ : List ℕ} (g : Finishes tree text (for_begin_steps tree text s₁ c x r) tt n₁ c l s₁ a l₂ s₂) where
+    module _ (d : o ≡ Ok tt) {n₁ : Amount} {a : Finished} {l₂ s₂ : List ℕ} (g : Finishes tree text (for_begin_steps tree text s₁ c x r) tt n₁ c l s₁ a l₂ s₂) where
       begin_scope : scope_in tree text s₁ c ≡ scope_in tree text s c
       begin_scope = scope_later p bounds_stay
 
@@ -368,7 +367,7 @@ module _ {tree text l s : List ℕ} {c : Converter} (x : VarId) (r : ℕ) (p : C
           → Meets (texts_of tree text) (for_turns_steps tree text s c x r) n c.counters l l₃ y
       unfolding outcome_of
       from_begin q =
-          meets-same (texts_of tree text) (sym (int_steps ∙ ap (λ (z : Outcome). lift (outcome_of z) >> turns) d ∙ seq_is (lift (outcome_of Outcome.Done)) turns))
+          meets-same (texts_of tree text) (sym (int_steps ∙ ap (λ (z : Answer (Unit {0})). lift (outcome_of z) >> turns) d ∙ seq_is (lift (outcome_of (Ok tt))) turns))
           (meets-lift (texts_of tree text) (λ (u : Unit {0}). turns) p.room refl
           (meets-same (texts_of tree text) (ap (λ (S : Def.Scope). for_begin (program tree text) (all_keys tree text) r (var_of x) (bit 16 (detail_of tree x.1)) (bit 32 (detail_of tree x.1)) (expr_at tree text (word_of tree r B)) S >> for_test_steps tree text s c x r) begin_scope) q))
 
@@ -390,7 +389,7 @@ module _ {tree text l s : List ℕ} {c : Converter} (x : VarId) (r : ℕ) (p : C
       }
 
 -- in one turn
-module _ {tree text l s s₁ l₂ s₂ : List ℕ} {c : Converter} {m m' : M (Unit {0})} {n : Amount} {o : Outcome} {a : Finished} {k : Counters} (r : ℕ) (p : Converting tree text l s c)
+module _ {tree text l s s₁ l₂ s₂ : List ℕ} {c : Converter} {m m' : M (Unit {0})} {n : Amount} {o : Answer (Unit {0})} {a : Finished} {k : Counters} (r : ℕ) (p : Converting tree text l s c)
     (b : Checks tree m s o s₁) (g : Finishes tree text m' tt n c l s₁ a l₂ s₂) (u : FinishesTyped for_begin_types c r tree text s₁ a s₂) (w : a ≡ Finished.Done k) where
   test-scope : scope_in tree text s₂ c ≡ scope_in tree text s₁ c
   test-scope = scope_later (checks_converting p b) g.stays
@@ -398,7 +397,7 @@ module _ {tree text l s s₁ l₂ s₂ : List ℕ} {c : Converter} {m m' : M (Un
   pub test-in_turn : InTurn tree text s₂ (with_counters c k)
   test-in_turn = in_turn-next c test-scope (u k w)
 
-  pub turns-typed : {y : Finished} {s₃ : List ℕ} → ChecksTyped bounds_types c r tree text s o s₁ → o ≡ Outcome.Done → FinishesTyped for_test_types (with_counters c k) r tree text s₂ y s₃
+  pub turns-typed : {y : Finished} {s₃ : List ℕ} → ChecksTyped bounds_types c r tree text s o s₁ → o ≡ Ok tt → FinishesTyped for_test_types (with_counters c k) r tree text s₂ y s₃
       → FinishesTyped for_types c r tree text s y s₃
   turns-typed t d v k' q = checked_next c p.ready.scoped b t d (typed-next c test-scope (u k w) (v k' q))
 

@@ -31,7 +31,6 @@ use Rattle.ir.specs.declared.structs.VarId.{VarId}
 use Rattle.ir.specs.declared.structs.Operand.{Operand}
 use Rattle.ir.specs.declared.structs.NewVariable.{NewVariable}
 use Rattle.ir.specs.Amounts.{Amount, amount, both}
-use Rattle.ir.specs.Arena.{HasSlot}
 use Rattle.ir.specs.Instructions.{operand_of, var_of}
 use Rattle.ir.specs.Steps.{Emits, AddsVar, named}
 use Rattle.ir.proofs.StepLaws.{next_in}
@@ -53,11 +52,6 @@ not_label : (b : Bool) (r : ℕ) → named (pick b 4 5) r ≡ pick b (otherwise_
 unfolding pick
 not_label true r = refl
 not_label false r = refl
-
-not-slot : (b : Bool) {n r label : ℕ} → label ≡ pick b 4 5 → r < n → HasSlot n (named label r)
-unfolding pick
-not-slot true e h = omega arith
-not-slot false e h = omega arith
 
 -- ---- labels and jumps in a row
 
@@ -197,12 +191,11 @@ module _ {tree text l s : List ℕ} {c : Converter} (r : ℕ) {e : ℕ} (p : Con
       ((p, omega (arith, f, d.fewer, same-under tree text q)), subst (λ (z : ℕ). IsExpr tree z) (sym q) d.expression)
 
   module _ {a : Converted} {l₁ s₁ : List ℕ} (i : Converts tree text (cond_steps tree text s c e) (expr_amount (under (expr_at tree text e))) c l s a l₁ s₁) where
-    pub if_jump_requires : IsKind tree 19 r → {label : ℕ} {o : Operand} {k : Counters} → label ≡ pick (bit 1 (detail_of tree r)) 4 5 → a ≡ Converted.Is o k
-        → RoomFor k l₁ (amount 1 0 1 0 0) × HasSlot k.records (named label r)
-    if_jump_requires x el w =
+    pub if_jump_requires : IsKind tree 19 r → {o : Operand} {k : Counters} → a ≡ Converted.Is o k → RoomFor k l₁ (amount 1 0 1 0 0) × (r < k.records)
+    if_jump_requires x w =
         let d : Condition tree text r = if_condition p x in (
           record { room = (converted-next i w).next.room; affords = omega (arith, f.tables, d.fewer, same-under tree text q, (converted-next i w).spent) },
-          not-slot (bit 1 (detail_of tree r)) el (record_counted p x (converted-next i w).spent.records),
+          record_counted p x (converted-next i w).spent.records,
         )
 
 module _ {tree text l s l₁ s₁ : List ℕ} {c : Converter} (r : ℕ) {e : ℕ} {a : Converted} (q : e ≡ word_of tree r A)
@@ -237,7 +230,7 @@ module _ {tree text l l₀ s : List ℕ} {c : Converter} (r : ℕ) {e : ℕ} {k�
 
   module _ {a : Converted} {l₁ s₁ : List ℕ}
       (i : Converts tree text (cond_steps tree text s (with_counters c k₀) e) (expr_amount (under (expr_at tree text e))) (with_counters c k₀) l₀ s a l₁ s₁) where
-    pub while_jump_requires : IsKind tree 20 r → {o : Operand} {k : Counters} → a ≡ Converted.Is o k → RoomFor k l₁ (amount 1 0 1 0 0) × HasSlot k.records (named 2 r)
+    pub while_jump_requires : IsKind tree 20 r → {o : Operand} {k : Counters} → a ≡ Converted.Is o k → RoomFor k l₁ (amount 1 0 1 0 0) × (r < k.records)
     while_jump_requires x {k = k} w =
         let d : Condition tree text r = while_condition p x in
         let counted : r < k.records = record_counted p x ((converted-next i w).spent.records ∙ g₀.spent.records) in (

@@ -1,5 +1,7 @@
 -- The Init, as the code meets it: a value assigned to a known variable, a new variable with its name and the copy, and which of both it is.
 -- By the laws of steps in a row: the scope stays while the value is typed and converted; amounts are arithmetic over the value's records. Assumes nothing.
+use Rattle.std.specs.Prelude as Std
+use Rattle.std.specs.Prelude.{Ok, Err, Some, None}
 use mathlib.Core.Path.{◌≡◌, refl, sym, ap, ap₂, ◌∙◌, subst}
 use mathlib.Core.Bool.{Bool, true, false, ◌||◌}
 use mathlib.Core.List.{List, [], ◌++◌}
@@ -45,13 +47,10 @@ use Rattle.texts.specs.Texts.{has_text}
 use Rattle.expressions.specs.Slots.{original_of, original_word, Asked, Ready}
 use Rattle.expressions.proofs.OriginalLaws.{kind-asked}
 use Rattle.scope.specs.declared.Known.{Known}
-use Rattle.scope.specs.declared.Declared.{Declared}
 use Rattle.scope.specs.Open.{NameAfforded, scope_at, FindMeets, DeclareMeets}
 use Rattle.scope.proofs.ScopeLaws.{find_some, find_unknown}
 use Rattle.keys.specs.Keys.{all_keys}
-use Rattle.expressions.specs.declared.answers.ExprType.{ExprType}
-use Rattle.expressions.specs.declared.answers.Outcome.{Outcome}
-use Rattle.expressions.specs.Answers.{outcome_of, IsTyped, TypeMeets}
+use Rattle.expressions.specs.Answers.{Answer, outcome_of, IsTyped, TypeMeets}
 use Rattle.expressions.proofs.OperandLaws.{first-type, type_of_lem}
 use Rattle.expressions.proofs.TypingLaws.{is-typed}
 use Rattle.expressions.proofs.TurnLaws.{typed-same}
@@ -109,7 +108,7 @@ module _ {tree text : List ℕ} (good : Good tree text) {r : ℕ} (x : IsKind tr
   value_afforded f = omega (arith, f, value-records)
 
   -- what checking asks, where the value has a type and the variable's is one
-  pub value_checks : {ty : ExprType} {y expected : ℕ} → IsTyped tree ty → ty ≡ ExprType.Is y → TypeAt tree expected
+  pub value_checks : {ty : Answer ℕ} {y expected : ℕ} → IsTyped tree ty → ty ≡ Ok y → TypeAt tree expected
       → IsExpr tree e × IsType tree y × IsType tree expected × (e < 4294967296) × (r < 4294967296)
   value_checks {ty} {y} {expected} t w q =
       (value-expr, type_of_lem tree text good y (is-typed tree ty y t w), type_of_lem tree text good expected q, omega (arith, value-expr.inside, good.few), omega (arith, x.below, good.few))
@@ -143,7 +142,7 @@ module _ {tree text l s : List ℕ} {c : Converter} {r : ℕ} (p : Converting tr
     pub assign-turn : InTurn tree text s₁ c
     assign-turn = in_turn-next c (scope_later p m.stays) u
 
-    pub assign_types_lem : {ty : ExprType} {y : ℕ} {s₂ : List ℕ} → TypeMeets tree text s₁ c.scope c.turn e ty s₂ → ty ≡ ExprType.Is y → TypedIn tree text c s (assign_types tree text r) s₂
+    pub assign_types_lem : {ty : Answer ℕ} {y : ℕ} {s₂ : List ℕ} → TypeMeets tree text s₁ c.scope c.turn e ty s₂ → ty ≡ Ok y → TypedIn tree text c s (assign_types tree text r) s₂
     assign_types_lem {y = y} {s₂ = s₂} t w =
         subst (λ (z : ℕ). TypedIn tree text c s (expr_types tree text z ++ exprs (expr_at tree text z)) s₂) ee (typed-next c (scope_later p m.stays) u (t.adds y w))
 
@@ -157,7 +156,7 @@ module _ {tree text l s : List ℕ} {c : Converter} {r : ℕ} (p : Converting tr
       affords = omega (arith, f.tables, value-records p.ready.keyed.good x ee, (converted-next m q).spent);
     }
 
-    module _ {ty : ExprType} {s₂ : List ℕ} (t : TypeMeets tree text s₁ c.scope c.turn e ty s₂) where
+    module _ {ty : Answer ℕ} {s₂ : List ℕ} (t : TypeMeets tree text s₁ c.scope c.turn e ty s₂) where
       both_stay : StaysFor tree c s s₂
       both_stay = stays_then (omega arith) (omega arith) m.stays (type-stays further t)
 
@@ -167,17 +166,17 @@ module _ {tree text l s : List ℕ} {c : Converter} {r : ℕ} (p : Converting tr
           meets-same (texts_of tree text) assign_steps_lem (meets-most (texts_of tree text) (operand_then m (λ src. typed_then (scope_at tree text s c.scope) src) q
           (meets-same (texts_of tree text) (ap (λ (S : Def.Scope). typed_then S (operand_of o)) (scope_later p m.stays)) i)) (omega (arith, value-records p.ready.keyed.good x ee)))
 
-      pub assign_untyped : {z : ConvertError} → ty ≡ ExprType.Refused z → StatesAs (λ t u i k j. assign_to_steps t u i k j v) c r tree text l s (Stated.Refused z) l₁ s₂
+      pub assign_untyped : {z : ConvertError} → ty ≡ Err z → StatesAs (λ t u i k j. assign_to_steps t u i k j v) c r tree text l s (Stated.Refused z) l₁ s₂
       assign_untyped w = states_stop (value_then (typed-not further t (λ y. checked_then (operand_of o) y) w)) both_stay
 
-      module _ {y : ℕ} (w : ty ≡ ExprType.Is y) {g : Outcome}
+      module _ {y : ℕ} (w : ty ≡ Ok y) {g : Answer (Unit {0})}
           (h : check_fits (program tree text) (all_keys tree text) (expr_at tree text e) y v.1 WrongAssignType r ≡ lift (outcome_of g)) where
-        pub assign_unfit : {z : ConvertError} → g ≡ Outcome.Refused z → StatesAs (λ t u i k j. assign_to_steps t u i k j v) c r tree text l s (Stated.Refused z) l₁ s₂
+        pub assign_unfit : {z : ConvertError} → g ≡ Err z → StatesAs (λ t u i k j. assign_to_steps t u i k j v) c r tree text l s (Stated.Refused z) l₁ s₂
         assign_unfit d =
             states_stop (value_then (typed_then_lem further t (λ y. checked_then (operand_of o) y) w
             (checked_not g h (copy_fitted (program tree text) (var_of v) (operand_of o) >> pure (scope_at tree text s c.scope)) (texts_of tree text) d))) both_stay
 
-        pub assign-done : {k₂ : Counters} {l₂ : List ℕ} → g ≡ Outcome.Done → Adds (copy_fitted (program tree text) (var_of v) (operand_of o)) (amount 2 1 0 0 1) k l₁ tt k₂ l₂
+        pub assign-done : {k₂ : Counters} {l₂ : List ℕ} → g ≡ Ok tt → Adds (copy_fitted (program tree text) (var_of v) (operand_of o)) (amount 2 1 0 0 1) k l₁ tt k₂ l₂
             → StatesAs (λ t u i k j. assign_to_steps t u i k j v) c r tree text l s (Stated.Done c.scope k₂) l₂ s₂
         assign-done {k₂ = k₂} {l₂ = l₂} d i =
             let S : Def.Scope = scope_at tree text s c.scope in
@@ -248,18 +247,18 @@ module _ {tree text l s : List ℕ} {c : Converter} {r y : ℕ} (p : Converting 
     pub new_requires : Asked tree text s c.scope r × NameAfforded c.scope made.var
     new_requires = (init_asked p.ready x, var_afforded p long new more-names new_type_lem)
 
-    module _ (src : Operand) {d : ℕ} (ed : d ≡ detail_of tree r) {s' : List ℕ} {g : Declared}
+    module _ (src : Operand) {d : ℕ} (ed : d ≡ detail_of tree r) {s' : List ℕ} {g : Std.Option Scope}
         (m : DeclareMeets text (original_of tree s r) (original_word tree s r A) (original_word tree s r B) made.var (eqb d 1) c.scope s s' g) where
-      pub new-taken : {e : ConvertError} → g ≡ Declared.Taken → e ≡ record { kind = AlreadyDeclared; place = r }
+      pub new-taken : {e : ConvertError} → g ≡ None → e ≡ record { kind = AlreadyDeclared; place = r }
           → DeclaresAs (λ t u i k j. declare_init_steps t u i k j y src) c r tree text l s (Stated.Refused e) l₁ s'
       new-taken q w =
           states_stop (meets-same (texts_of tree text) (declare_steps_lem src ed) (variable-not p long new more-names new_type_lem r (init_asked p.ready x) (eqb d 1) s' m r (copied src) q w))
           (taken-stays p made.var more-names (var_typed p long new more-names new_type_lem) r (init_asked p.ready x) (eqb d 1) s' m q)
 
-      pub new-types : {sc : Scope} → g ≡ Declared.Done sc → InTurn tree text s c → TypedIn tree text c s [] s'
+      pub new-types : {sc : Scope} → g ≡ Some sc → InTurn tree text s c → TypedIn tree text c s [] s'
       new-types q i = declared_types p made.var more-names (var_typed p long new more-names new_type_lem) r (init_asked p.ready x) (eqb d 1) s' m q i
 
-      pub new_declared : {sc : Scope} {k₂ : Counters} {l₂ : List ℕ} → g ≡ Declared.Done sc → length l₂ ≡ length l₁ → Emits (Copy (var_of made.var) (operand_of src)) made.counters l₁ k₂ l₂
+      pub new_declared : {sc : Scope} {k₂ : Counters} {l₂ : List ℕ} → g ≡ Some sc → length l₂ ≡ length l₁ → Emits (Copy (var_of made.var) (operand_of src)) made.counters l₁ k₂ l₂
           → DeclaresAs (λ t u i k j. declare_init_steps t u i k j y src) c r tree text l s (Stated.Done sc k₂) l₂ s'
       new_declared {sc} {k₂} {l₂} q h i =
           let at : TypeAt tree made.var.1 = var_typed p long new more-names new_type_lem in
@@ -272,7 +271,7 @@ module _ {tree text l s : List ℕ} {c : Converter} {r y : ℕ} (p : Converting 
 -- ---- a new name, from its value on
 
 module _ {tree text l s : List ℕ} {c : Converter} {r : ℕ} (p : Converting tree text l s c) (f : BehindAfforded tree text c r) (x : IsKind tree 16 r)
-    {e : ℕ} (ee : e ≡ word_of tree r C) {ty : ExprType} {s₁ : List ℕ} (t : TypeMeets tree text s c.scope c.turn e ty s₁) where
+    {e : ℕ} (ee : e ≡ word_of tree r C) {ty : Answer ℕ} {s₁ : List ℕ} (t : TypeMeets tree text s c.scope c.turn e ty s₁) where
   abbrev declared : Def.Scope → ℕ → Ir.Operand → M Def.Scope
   declared S y src = declare_init (program tree text) (all_keys tree text) r (bit 1 (detail_of tree r)) (text_of tree text r A) y src S
 
@@ -285,10 +284,10 @@ module _ {tree text l s : List ℕ} {c : Converter} {r : ℕ} (p : Converting tr
       init_parts (program tree text) (all_keys tree text) r (bit 1 (detail_of tree r)) (text_of tree text r A) (expr_at tree text e) (scope_at tree text s c.scope)
       ∙ ap (λ (z : ℕ). init_new (program tree text) (all_keys tree text) r (bit 1 (detail_of tree r)) (text_of tree text r A) (expr_at tree text z) (scope_at tree text s c.scope)) ee
 
-  pub new_untyped : {z : ConvertError} → ty ≡ ExprType.Refused z → StatesAs init_new_steps c r tree text l s (Stated.Refused z) l s₁
+  pub new_untyped : {z : ConvertError} → ty ≡ Err z → StatesAs init_new_steps c r tree text l s (Stated.Refused z) l s₁
   new_untyped w = states_stop (meets-same (texts_of tree text) new-steps (typed-not p t (λ y. valued (scope_at tree text s c.scope) y) w)) (type-stays p t)
 
-  module _ {y : ℕ} (w : ty ≡ ExprType.Is y) {a : Converted} {l₁ s₂ : List ℕ}
+  module _ {y : ℕ} (w : ty ≡ Ok y) {a : Converted} {l₁ s₂ : List ℕ}
       (m : Converts tree text (expr_steps tree text s₁ c e) (expr_amount (under (expr_at tree text e))) c l s₁ a l₁ s₂) where
     abbrev typed : Converting tree text l s₁ c
     typed = type_converting p t
@@ -371,27 +370,27 @@ module _ {tree text l s : List ℕ} {c : Converter} {r : ℕ} (p : Converting tr
   init_constant h i =
       states_same (by-constant (program tree text) (all_keys tree text) r (text_of tree text r A) value S (bit 1 (detail_of tree r)) (find_variable (text_of tree text r A) S) (sym mark ∙ eq-eqb d 1 h)) i
 
-  module _ {known : Known} (g : FindMeets text s c.scope (text_of tree text r A) known) where
-    was : {k : Known} → known ≡ k → FindMeets text s c.scope (text_of tree text r A) k
-    was {k} q = subst (λ (z : Known). FindMeets text s c.scope (text_of tree text r A) z) q g
+  module _ {known : Std.Option Known} (g : FindMeets text s c.scope (text_of tree text r A) known) where
+    was : {k : Std.Option Known} → known ≡ k → FindMeets text s c.scope (text_of tree text r A) k
+    was {k} q = subst (λ (z : Std.Option Known). FindMeets text s c.scope (text_of tree text r A) z) q g
 
-    pub init_unknown : {a : Stated} {l' s' : List ℕ} → known ≡ Known.Unknown → StatesAs init_new_steps c r tree text l s a l' s' → StatesAs init_steps c r tree text l s a l' s'
+    pub init_unknown : {a : Stated} {l' s' : List ℕ} → known ≡ None → StatesAs init_new_steps c r tree text l s a l' s' → StatesAs init_steps c r tree text l s a l' s'
     unfolding convert_init
     init_unknown q i =
         states_same (by_unknown (program tree text) (all_keys tree text) r (text_of tree text r A) value S (bit 1 (detail_of tree r)) (find_variable (text_of tree text r A) S)
         (find_unknown tree text s c.scope (text_of tree text r A) (was q))) i
 
-    module _ {v : VarId} {constant : Bool} (q : known ≡ Known.Is v constant) where
-      pub known-typed : TypeAt tree v.1
-      known-typed = found-typed p (text_of tree text r A) v constant (was q)
+    module _ {y : Known} (q : known ≡ Some y) where
+      pub known-typed : TypeAt tree y.var.1
+      known-typed = found-typed p (text_of tree text r A) y (was q)
 
-      pub init_known : {a : Stated} {l' s' : List ℕ} → (d ≡ 1 → ⊥) → StatesAs (λ t u i k j. assign_steps t u i k j v constant) c r tree text l s a l' s'
+      pub init_known : {a : Stated} {l' s' : List ℕ} → (d ≡ 1 → ⊥) → StatesAs (λ t u i k j. assign_steps t u i k j y.var y.constant) c r tree text l s a l' s'
           → StatesAs init_steps c r tree text l s a l' s'
       unfolding convert_init
       init_known h i =
-          let k = find_some tree text s c.scope (text_of tree text r A) v constant (was q) in
+          let k = find_some tree text s c.scope (text_of tree text r A) y (was q) in
           states_same (
-          assign-by (program tree text) (all_keys tree text) r (text_of tree text r A) value S (text_of tree text r A) k.holder constant (var_of v) k.fixed k.var
+          assign-by (program tree text) (all_keys tree text) r (text_of tree text r A) value S (text_of tree text r A) k.holder y.constant (var_of y.var) k.fixed k.var
           ∙ by-known (program tree text) (all_keys tree text) r (text_of tree text r A) value S (bit 1 (detail_of tree r)) (find_variable (text_of tree text r A) S) k.holder
           (sym mark ∙ ne_eqb d 1 h) k.found
           ) i

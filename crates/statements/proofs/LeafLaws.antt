@@ -1,7 +1,10 @@
 -- The operands of expressions without operands of their own, as the code meets them: of literals, names and sizes.
 -- By what a record of each kind stands for; a leaf adds a string or a float, or nothing. Assumes nothing.
+use Rattle.std.specs.Prelude as Std
+use Rattle.std.specs.Prelude.{Ok, Some, None}
 use mathlib.Core.Path.{◌≡◌, refl, sym, ap, ap₂, ◌∙◌, subst}
 use mathlib.Core.Bool.{Bool, true, false}
+use mathlib.Core.Logic.{◌⊎◌, inl, inr}
 use mathlib.Core.List.{List}
 use mathlib.Core.Option.{Option, none, some}
 use Prim.Native.Nat.{ℕ, ◌+◌, ◌*◌, ◌/◌, ◌%◌, ◌^◌, ◌≤◌, ◌<◌}
@@ -31,7 +34,6 @@ use Rattle.texts.proofs.TextLaws.{own-number, numbers_apart}
 use Rattle.types.specs.declared.size.Bytes.{Bytes}
 use Rattle.types.specs.Sizes.{exact_size, bytes_for, exact_bytes, size_at}
 use Rattle.ir.specs.declared.structs.Counters.{Counters}
-use Rattle.ir.specs.declared.structs.VarId.{VarId}
 use Rattle.ir.specs.declared.structs.Operand.{Operand}
 use Rattle.ir.specs.declared.floats.FloatBits.{FloatBits}
 use Rattle.ir.specs.declared.pool.PoolNumber.{PoolNumber}
@@ -46,7 +48,6 @@ use Rattle.scope.specs.declared.Known.{Known}
 use Rattle.scope.specs.Open.{scope_at, FindMeets}
 use Rattle.scope.proofs.ScopeLaws.{find_some, find_unknown}
 use Rattle.expressions.specs.Answers.{IsTyped}
-use Rattle.expressions.specs.declared.answers.ExprType.TheVariants as ExprType
 use Rattle.expressions.specs.Slots.{Asked, Ready}
 use Rattle.expressions.proofs.LeafLaws as Typing
 use Rattle.expressions.proofs.OriginalLaws.{kind-has, name-asked, kind-asked, slot-inside}
@@ -169,32 +170,32 @@ pub name-ready : {tree text s : List ℕ} {sc : Scope} {e : ℕ} → Ready tree 
 name-ready x is = name-asked (x.keyed.good, x.keyed.numbered) x.scoped is
 
 module _ (tree text l s : List ℕ) (c : Converter) (e : ℕ) (x : Converting tree text l s c) (is : IsKind tree 6 e)
-    (r : Known) (m : FindMeets text s c.scope (text_of tree text e A) r) where
+    (r : Std.Option Known) (m : FindMeets text s c.scope (text_of tree text e A) r) where
   name-steps : expr_steps tree text s c e ≡ name_operand e (find_variable (text_of tree text e A) (scope_at tree text s c.scope))
   unfolding convert_expr
   name-steps = rw (expr-name tree text e is.kind)
 
-  met : (k : Known) → r ≡ k → FindMeets text s c.scope (text_of tree text e A) k
-  met k q = subst (λ (z : Known). FindMeets text s c.scope (text_of tree text e A) z) q m
+  met : (k : Std.Option Known) → r ≡ k → FindMeets text s c.scope (text_of tree text e A) k
+  met k q = subst (λ (z : Std.Option Known). FindMeets text s c.scope (text_of tree text e A) z) q m
 
-  typed : {y : ℕ} → IsTyped tree (ExprType.Is y) → TypeAt tree y
+  typed : {y : ℕ} → IsTyped tree (Ok y) → TypeAt tree y
   typed (IsTyped.is t) = t
 
-  pub name-gives : (v : VarId) (b : Bool) → r ≡ Known.Is v b
-      → Converts tree text (expr_steps tree text s c e) (amount 0 0 0 0 0) c l s (Converted.Is (Operand.Var v) c.counters) l s
+  pub name-gives : (v : Known) → r ≡ Some v
+      → Converts tree text (expr_steps tree text s c e) (amount 0 0 0 0 0) c l s (Converted.Is (Operand.Var v.var) c.counters) l s
   unfolding name_operand OperandIn
-  name-gives v b q =
-      let f = find_some tree text s c.scope (text_of tree text e A) v b (met (Known.Is v b) q) in
-      gives_operand tree text l s c (expr_steps tree text s c e) (Operand.Var v) x.room
+  name-gives v q =
+      let f = find_some tree text s c.scope (text_of tree text e A) v (met (Some v) q) in
+      gives_operand tree text l s c (expr_steps tree text s c e) (Operand.Var v.var) x.room
       (name-steps ∙ rw f.found (ap (λ (z : Ir.VarId). pure (OVar z)) f.var))
-      (typed (Typing.name-known tree text s c.scope e x.ready.scoped is r m v b q).type)
+      (typed (Typing.name-known tree text s c.scope e x.ready.scoped is r m v q).type)
 
-  pub name_refuses : r ≡ Known.Unknown → (z : ConvertError) → z ≡ record { kind = UnknownVariable; place = e }
+  pub name_refuses : r ≡ None → (z : ConvertError) → z ≡ record { kind = UnknownVariable; place = e }
       → Converts tree text (expr_steps tree text s c e) (amount 0 0 0 0 0) c l s (Converted.Refused z) l s
   unfolding name_operand
   name_refuses q z w =
       refuses_operand tree text l s c (expr_steps tree text s c e) UnknownVariable e z w
-      (name-steps ∙ rw (find_unknown tree text s c.scope (text_of tree text e A) (met Known.Unknown q)))
+      (name-steps ∙ rw (find_unknown tree text s c.scope (text_of tree text e A) (met None q)))
 
 -- ---- sizes
 
@@ -207,13 +208,10 @@ exact-small n (some k) q = go (ltb k (2 ^ 63)) refl q
     go true h z = let w : n ≡ k = cc in omega (arith, ltb-true k (2 ^ 63) h)
     go false h z = let w : ◌≡◌ {A = ℕ} 0 1 = cc in absurd (omega arith)
 
-pub over_none : (b : Bytes) → b ≡ Bytes.Over → exact_bytes b ≡ none
+pub no_bytes : (b : Bytes) → (b ≡ Bytes.Over) ⊎ (b ≡ Bytes.Nothing) → exact_bytes b ≡ none
 unfolding exact_bytes
-over_none b q = rw q
-
-pub nothing_none : (b : Bytes) → b ≡ Bytes.Nothing → exact_bytes b ≡ none
-unfolding exact_bytes
-nothing_none b q = rw q
+no_bytes b (inl q) = rw q
+no_bytes b (inr q) = rw q
 
 pub size-inside : {tree text : List ℕ} {e y : ℕ} → Good tree text → IsKind tree 8 e → y ≡ word_of tree e A → y * 32 + 32 ≤ length tree
 size-inside {tree = tree} {text = text} {e = e} {y = y} good is ey =

@@ -1,3 +1,4 @@
+pub mod Absent
 pub mod TurnLaws
 pub mod PlainTurns
 pub mod PartLaws

@@ -4,12 +4,14 @@ use mathlib.Core.Path.{◌≡◌, refl}
 use Prim.Native.Nat.{ℕ}
 use mathlib.Core.Bool.{Bool, true, false}
 use Rattle.syntax.specs.Syntax.{UnaryOp, BinaryOp, Expr, Program}
-use Rattle.conversion.specs.Ir.{VarId, Operand, condition_end, M, ◌>>=◌, ◌>>◌, pure}
+use Rattle.std.proofs.Math.Option.{Option, none, some}
+use Rattle.conversion.specs.ConvertError.{BreakOutOfLoop, ContinueOutOfLoop}
+use Rattle.conversion.specs.Ir.{VarId, Operand, LabelName, loop_start, loop_end, condition_end, M, ◌>>=◌, ◌>>◌, pure, emit, label_id, Jump}
 use Rattle.conversion.specs.Scope.{Scope}
 use Rattle.conversion.specs.Expressions.{Functions}
-use Rattle.conversion.specs.Statements.{convert_unary, convert_and, convert_or, convert_other, convert_if, convert_if_else, convert_while_loop, for_loop}
+use Rattle.conversion.specs.Statements.{convert_unary, convert_and, convert_or, convert_other, convert_if, convert_if_else, convert_while_loop, for_loop, convert_break, convert_continue}
 use Rattle.conversion.proofs.MonadLaws.{regroup, seq_is, pure-first}
-use Rattle.statements.specs.Parts.{place_label, emit_jump, jump_if_not, finish_unary, begin_logic, join_and, join_or, end_logic, finish_binary, if_head, while_head, copy_fitted, count_on, test_bound, for_bounds, for_begin, for_test, if_middle, loop_back}
+use Rattle.statements.specs.Parts.{place_label, emit_jump, jump_if_not, finish_unary, begin_logic, join_and, join_or, end_logic, finish_binary, if_head, while_head, copy_fitted, count_on, test_bound, for_bounds, for_begin, for_test, if_middle, loop_back, loop_jump}
 
 pub unary_parts : (o : UnaryOp) (y : ℕ) (m : M Operand) → convert_unary o y m ≡ m >>= (λ src. finish_unary o y src)
 unfolding convert_unary finish_unary
@@ -24,6 +26,11 @@ pub or_parts : (r y : ℕ) (left right : M Operand)
     → convert_or r y left right ≡ begin_logic r y >>= (λ dest. left >>= (λ a. join_or r dest a >> (right >>= (λ b. end_logic r dest b))))
 unfolding convert_or begin_logic join_or end_logic jump_if_not emit_jump place_label
 or_parts r y left right = simp (seq_is, regroup, pure-first)
+
+-- a jump that leaves the scope
+jump_first : (n : LabelName) (sc : Scope) → label_id n >>= (λ (i : ℕ). emit (Jump i) >> pure sc) ≡ emit_jump n >> pure sc
+unfolding emit_jump
+jump_first n sc = simp (seq_is, regroup)
 
 module _ (P : Program) (F : Functions) where
   pub other_parts : (o : BinaryOp) (y q : ℕ) (left right : M Operand)
@@ -52,3 +59,13 @@ module _ (P : Program) (F : Functions) where
       ≡ for_bounds P F x.ty from until sc >> (for_begin P F r x short unsigned from sc >> (for_test P F r x until sc >> (body >> (loop_back r >> pure sc))))
   unfolding for_loop for_bounds for_begin copy_fitted count_on for_test test_bound loop_back jump_if_not emit_jump place_label
   for_parts r x short unsigned from until sc body = simp (seq_is, regroup)
+
+  pub break_parts : (r : ℕ) (x : Option ℕ) (sc : Scope) → convert_break P F r x sc ≡ loop_jump loop_end BreakOutOfLoop r x sc
+  unfolding convert_break loop_jump
+  break_parts r none sc = refl
+  break_parts r (some x) sc = jump_first (loop_end x) sc
+
+  pub continue_parts : (r : ℕ) (x : Option ℕ) (sc : Scope) → convert_continue P F r x sc ≡ loop_jump loop_start ContinueOutOfLoop r x sc
+  unfolding convert_continue loop_jump
+  continue_parts r none sc = refl
+  continue_parts r (some x) sc = jump_first (loop_start x) sc

@@ -1,5 +1,7 @@
 -- What a condition, a Return and a call statement owe, as the code meets them: typing first, then the parts, in the scope from before.
 -- By the laws of steps in a row; the return type is word D of the function's record, and amounts are arithmetic over the records. Assumes nothing.
+use Rattle.std.specs.Prelude.{Ok, Err}
+use Rattle.expressions.specs.declared.answers.Callee as Code-Callee
 use mathlib.Core.Path.{◌≡◌, refl, sym, ap, ◌∙◌, subst}
 use mathlib.Core.Logic.{◌⊎◌, inl, inr}
 use mathlib.Core.Bool.{true}
@@ -42,10 +44,7 @@ use Rattle.ir.specs.Steps.{Emits}
 use Rattle.laws.proofs.FixLaws.{pick_yes, pick_no}
 use Rattle.scope.specs.Open.{scope_at}
 use Rattle.keys.specs.Keys.{all_keys}
-use Rattle.expressions.specs.declared.answers.ExprType.{ExprType}
-use Rattle.expressions.specs.declared.answers.Outcome.{Outcome}
-use Rattle.expressions.specs.declared.answers.Resolved.{Resolved}
-use Rattle.expressions.specs.Answers.{refusal, outcome_of, callee_of, TypeMeets, CallMeets}
+use Rattle.expressions.specs.Answers.{Answer, refusal, outcome_of, callee_of, TypeMeets, CallMeets}
 use Rattle.expressions.proofs.SlotLaws.{scope-frame}
 use Rattle.expressions.proofs.TypingLaws.{expr-low, place_is}
 use Rattle.statements.specs.Lent.{Converter, Converted, ConvertedArgs, Stated, Fitted}
@@ -65,12 +64,12 @@ use Rattle.statements.proofs.ConvertLaws.{converts-same, converted-next}
 
 -- ---- a condition
 
-module _ {tree text l s : List ℕ} {c : Converter} {e : ℕ} (p : Converting tree text l s c) (x : IsExpr tree e) {ty : ExprType} {s₁ : List ℕ}
+module _ {tree text l s : List ℕ} {c : Converter} {e : ℕ} (p : Converting tree text l s c) (x : IsExpr tree e) {ty : Answer ℕ} {s₁ : List ℕ}
     (t : TypeMeets tree text s c.scope c.turn e ty s₁) where
   abbrev condition : ℕ → M Ir.Operand
   condition y = pick (eqb y bool_type) (expr_steps tree text s c e) (fail NotBool (place (expr_at tree text e)))
 
-  pub cond_stop : {z : ConvertError} → ty ≡ ExprType.Refused z → ConvertsAs cond_steps c e tree text l s (Converted.Refused z) l s₁
+  pub cond_stop : {z : ConvertError} → ty ≡ Err z → ConvertsAs cond_steps c e tree text l s (Converted.Refused z) l s₁
   unfolding convert_cond
   cond_stop w = record {
     meets = typed-not p t condition w;
@@ -79,7 +78,7 @@ module _ {tree text l s : List ℕ} {c : Converter} {e : ℕ} (p : Converting tr
     names = frame-names t.frame;
   }
 
-  module _ {y : ℕ} (w : ty ≡ ExprType.Is y) where
+  module _ {y : ℕ} (w : ty ≡ Ok y) where
     pub cond_other : {z : ConvertError} → (y ≡ bool_type → ⊥) → z ≡ record { kind = NotBool; place = e } → ConvertsAs cond_steps c e tree text l s (Converted.Refused z) l s₁
     unfolding convert_cond
     cond_other n q = record {
@@ -106,12 +105,12 @@ module _ {tree text l s : List ℕ} {c : Converter} {e : ℕ} (p : Converting tr
 
 -- ---- a statement behind typing, which writes no table
 
-module _ {tree text l s : List ℕ} {c : Converter} {e : ℕ} (p : Converting tree text l s c) {ty : ExprType} {s₁ : List ℕ} (t : TypeMeets tree text s c.scope c.turn e ty s₁)
+module _ {tree text l s : List ℕ} {c : Converter} {e : ℕ} (p : Converting tree text l s c) {ty : Answer ℕ} {s₁ : List ℕ} (t : TypeMeets tree text s c.scope c.turn e ty s₁)
     (f : Def.Scope → ℕ → M Def.Scope) where
   abbrev typed_steps : M Def.Scope
   typed_steps = lift (get_type (program tree text) (all_keys tree text) (expr_at tree text e) (scope_at tree text s c.scope)) >>= f (scope_at tree text s c.scope)
 
-  pub typed_states : {n : Amount} {q y : ℕ} {a : Stated} {l' s₂ : List ℕ} → ty ≡ ExprType.Is y → States tree text (f (scope_at tree text s₁ c.scope) y) n q c l s₁ a l' s₂
+  pub typed_states : {n : Amount} {q y : ℕ} {a : Stated} {l' s₂ : List ℕ} → ty ≡ Ok y → States tree text (f (scope_at tree text s₁ c.scope) y) n q c l s₁ a l' s₂
       → States tree text typed_steps n q c l s a l' s₂
   typed_states {y = y} w i =
       let i' = states_same (ap (λ (S : Def.Scope). f S y) (scope_later p (type-stays p t))) i in
@@ -121,7 +120,7 @@ module _ {tree text l s : List ℕ} {c : Converter} {e : ℕ} (p : Converting tr
         stays = stays_then (omega arith) (omega arith) (type-stays p t) i'.stays;
       }
 
-  pub typed-refused : {n : Amount} {q : ℕ} {z : ConvertError} → ty ≡ ExprType.Refused z → States tree text typed_steps n q c l s (Stated.Refused z) l s₁
+  pub typed-refused : {n : Amount} {q : ℕ} {z : ConvertError} → ty ≡ Err z → States tree text typed_steps n q c l s (Stated.Refused z) l s₁
   typed-refused w = states_stop (typed-not p t (f (scope_at tree text s c.scope)) w) (type-stays p t)
 
 -- ---- the expression of a Return or of a call statement
@@ -187,12 +186,12 @@ module _ {tree text l s : List ℕ} {c : Converter} {r e : ℕ} (p : Converting 
         states_most (omega (arith, h, return-records p.ready.keyed.good ee x)) (omega arith)
         (states_same (ap (λ (w : ℕ). return_as (program tree text) (all_keys tree text) r (expr_at tree text w) y (scope_at tree text s c.scope) (some expected)) ee) i)
 
-    module _ (o : Outcome) (q : fits_in ≡ lift (outcome_of o)) where
-      pub return_unfit : {z : ConvertError} → o ≡ Outcome.Refused z → StatesAs (λ t x s k q. return_as_steps t x s k q y expected) c r tree text l s (Stated.Refused z) l s
+    module _ (o : Answer (Unit {0})) (q : fits_in ≡ lift (outcome_of o)) where
+      pub return_unfit : {z : ConvertError} → o ≡ Err z → StatesAs (λ t x s k q. return_as_steps t x s k q y expected) c r tree text l s (Stated.Refused z) l s
       unfolding return_as
       return_unfit w = as_return (amount 0 0 0 0 0) (omega arith) (states_stop (checked_not o q valued (texts_of tree text) w) (stays_refl tree c.scope.names c.operands s))
 
-      module _ (fine : o ≡ Outcome.Done) {v : Converted} {l₁ s₁ : List ℕ}
+      module _ (fine : o ≡ Ok tt) {v : Converted} {l₁ s₁ : List ℕ}
           (m : Converts tree text (expr_steps tree text s c e) (expr_amount (under (expr_at tree text e))) c l s v l₁ s₁) where
         pub return-stop : {z : ConvertError} → v ≡ Converted.Refused z → StatesAs (λ t x s k q. return_as_steps t x s k q y expected) c r tree text l s (Stated.Refused z) l₁ s₁
         unfolding return_as
@@ -216,7 +215,7 @@ return-types {tree = tree} {text = text} {s = s} {s' = s'} c r ee u = subst (λ 
 
 -- ---- a Return, once its value is typed
 
-module _ {tree text l s : List ℕ} {c : Converter} {r e : ℕ} (p : Converting tree text l s c) (x : IsKind tree 17 r) (ee : e ≡ word_of tree r A) {ty : ExprType} {s₁ : List ℕ}
+module _ {tree text l s : List ℕ} {c : Converter} {r e : ℕ} (p : Converting tree text l s c) (x : IsKind tree 17 r) (ee : e ≡ word_of tree r A) {ty : Answer ℕ} {s₁ : List ℕ}
     (t : TypeMeets tree text s c.scope c.turn e ty s₁) where
   abbrev by_function : Def.Scope → ℕ → M Def.Scope
   by_function S y = return_as (program tree text) (all_keys tree text) r (expr_at tree text (word_of tree r A)) y S S.function.return_type
@@ -224,11 +223,11 @@ module _ {tree text l s : List ℕ} {c : Converter} {r e : ℕ} (p : Converting 
   typed : TypeMeets tree text s c.scope c.turn (word_of tree r A) ty s₁
   typed = subst (λ (w : ℕ). TypeMeets tree text s c.scope c.turn w ty s₁) ee t
 
-  pub return_untyped : {z : ConvertError} → ty ≡ ExprType.Refused z → StatesAs return_steps c r tree text l s (Stated.Refused z) l s₁
+  pub return_untyped : {z : ConvertError} → ty ≡ Err z → StatesAs return_steps c r tree text l s (Stated.Refused z) l s₁
   unfolding convert_return
   return_untyped w = typed-refused p typed by_function w
 
-  pub return-next : {y : ℕ} {s₂ : List ℕ} → ty ≡ ExprType.Is y → TypedIn tree text c s₁ (return_as_types tree text r) s₂ → TypedIn tree text c s (head_types tree text r) s₂
+  pub return-next : {y : ℕ} {s₂ : List ℕ} → ty ≡ Ok y → TypedIn tree text c s₁ (return_as_types tree text r) s₂ → TypedIn tree text c s (head_types tree text r) s₂
   return-next w u = value-next p typed w u
 
   module _ {expected : ℕ} (ex : expected ≡ word_of tree c.scope.function D) where
@@ -244,7 +243,7 @@ module _ {tree text l s : List ℕ} {c : Converter} {r e : ℕ} (p : Converting 
         go (inl q) = absurd (n (ex ∙ q))
         go (inr h) = subst (λ (w : ℕ). TypeAt tree w) (sym ex) h
 
-    module _ {y : ℕ} (w : ty ≡ ExprType.Is y) where
+    module _ {y : ℕ} (w : ty ≡ Ok y) where
       pub return-none : {z : ConvertError} → expected ≡ none → z ≡ record { kind = ReturnWithoutType; place = r } → StatesAs return_steps c r tree text l s (Stated.Refused z) l s₁
       unfolding convert_return return_as
       return-none q h = typed_states p typed by_function w
@@ -337,7 +336,7 @@ module _ {tree text l s : List ℕ} {c : Converter} {r e : ℕ} (p : Converting 
   own_types_lem = ap typed_own (statement_call tree text good r x.below x.kind) ∙ ap (λ (w : ℕ). typed_own (SCall r (expr_at tree text w))) (sym ee)
 
   -- the expression is a call
-  module _ (y : IsKind tree 11 e) {callee : Resolved} {s₁ : List ℕ} (m : CallMeets tree text s c.scope c.turn e callee s₁) where
+  module _ (y : IsKind tree 11 e) {callee : Answer Code-Callee.Callee} {s₁ : List ℕ} (m : CallMeets tree text s c.scope c.turn e callee s₁) where
     abbrev called : Def.Scope → Callee → M Def.Scope
     called S to = call_statement (program tree text) (all_keys tree text) r (args_at tree text (word_of tree e C)) S to >> pure S
 
@@ -355,12 +354,12 @@ module _ {tree text l s : List ℕ} {c : Converter} {r e : ℕ} (p : Converting 
     resolved_stays : StaysFor tree c s s₁
     resolved_stays = frame-stays c.scope.names c.operands m.frame
 
-    pub resolved_stop : {z : ConvertError} → callee ≡ Resolved.Refused z → StatesAs call_statement_steps c r tree text l s (Stated.Refused z) l s₁
+    pub resolved_stop : {z : ConvertError} → callee ≡ Err z → StatesAs call_statement_steps c r tree text l s (Stated.Refused z) l s₁
     unfolding callee_of refusal
     resolved_stop w = states_same is_called
         (states_stop (meets-lift-stop (texts_of tree text) (called (scope_at tree text s c.scope)) refl (m.meets ∙ ap (callee_of tree text) w)) resolved_stays)
 
-    pub resolved_cast : {to : ℕ} {z : ConvertError} → callee ≡ Resolved.Cast to → z ≡ record { kind = WouldPanic; place = r }
+    pub resolved_cast : {to : ℕ} {z : ConvertError} → callee ≡ Ok (Code-Callee.Callee.Cast to) → z ≡ record { kind = WouldPanic; place = r }
         → StatesAs call_statement_steps c r tree text l s (Stated.Refused z) l s₁
     unfolding callee_of call_statement
     resolved_cast w q = states_same is_called
@@ -371,7 +370,7 @@ module _ {tree text l s : List ℕ} {c : Converter} {r e : ℕ} (p : Converting 
     unfolding call_statement
     function_parts S g = simp (seq_is, regroup)
 
-    pub resolved_function : {g : ℕ} {a : Stated} {l₁ s₂ : List ℕ} → callee ≡ Resolved.Function g
+    pub resolved_function : {g : ℕ} {a : Stated} {l₁ s₂ : List ℕ} → callee ≡ Ok (Code-Callee.Callee.Function g)
         → CallOnlyAs (λ t x s k q. call_only_steps t x s k q g) c e tree text l s₁ a l₁ s₂ → StatesAs call_statement_steps c r tree text l s a l₁ s₂
     unfolding callee_of
     resolved_function {g = g} w i =
@@ -389,18 +388,18 @@ module _ {tree text l s : List ℕ} {c : Converter} {r e : ℕ} (p : Converting 
     call_types_lem = own_types_lem ∙ ap (λ (z : Expr). typed_own (SCall r z)) (expr-call tree text good e y.below y.kind)
 
     -- in the turn: its arguments are typed, and then converted
-    arguments_typed : {g : ℕ} → callee ≡ Resolved.Function g → TypedIn tree text c s (args_exprs (args_at tree text (word_of tree e C))) s₁
+    arguments_typed : {g : ℕ} → callee ≡ Ok (Code-Callee.Callee.Function g) → TypedIn tree text c s (args_exprs (args_at tree text (word_of tree e C))) s₁
     unfolding callee_of
     arguments_typed {g = g} w = m.adds (CallFunction (function_of tree text g)) (ap (callee_of tree text) w)
 
-    pub resolved_turn : {g : ℕ} → callee ≡ Resolved.Function g → InTurn tree text s₁ c
+    pub resolved_turn : {g : ℕ} → callee ≡ Ok (Code-Callee.Callee.Function g) → InTurn tree text s₁ c
     resolved_turn w = in_turn-next c (scope_later p resolved_stays) (arguments_typed w)
 
-    pub resolved_types : {g : ℕ} {s₂ : List ℕ} → callee ≡ Resolved.Function g → TypedIn tree text c s₁ (call_only_types tree text e) s₂ → TypedIn tree text c s (own_types tree text r) s₂
+    pub resolved_types : {g : ℕ} {s₂ : List ℕ} → callee ≡ Ok (Code-Callee.Callee.Function g) → TypedIn tree text c s₁ (call_only_types tree text e) s₂ → TypedIn tree text c s (own_types tree text r) s₂
     resolved_types {s₂ = s₂} w u = subst (λ (z : List ℕ). TypedIn tree text c s z s₂) (sym call_types_lem) (typed-next c (scope_later p resolved_stays) (arguments_typed w) u)
 
   -- it is none: typed and never converted
-  module _ {k : ℕ} (ek : k ≡ kind_of tree e) (other : k ≡ 11 → ⊥) {ty : ExprType} {s₁ : List ℕ} (t : TypeMeets tree text s c.scope c.turn e ty s₁) where
+  module _ {k : ℕ} (ek : k ≡ kind_of tree e) (other : k ≡ 11 → ⊥) {ty : Answer ℕ} {s₁ : List ℕ} (t : TypeMeets tree text s c.scope c.turn e ty s₁) where
     no_call : {X : Type 0} (d : X) (g : ℕ → Text → Args → X) → as_call (expr_at tree text e) d g ≡ d
     unfolding as_call
     no_call d g =
@@ -427,10 +426,10 @@ module _ {tree text l s : List ℕ} {c : Converter} {r e : ℕ} (p : Converting 
     unfolding convert_call
     never_run = sym (no_call _ _) ∙ ap (λ (w : ℕ). convert_call (program tree text) (all_keys tree text) r (expr_at tree text w) (scope_at tree text s c.scope)) ee
 
-    pub typed-stop : {z : ConvertError} → ty ≡ ExprType.Refused z → StatesAs call_statement_steps c r tree text l s (Stated.Refused z) l s₁
+    pub typed-stop : {z : ConvertError} → ty ≡ Err z → StatesAs call_statement_steps c r tree text l s (Stated.Refused z) l s₁
     typed-stop w = states_same never_run (typed-refused p t dropped w)
 
-    pub typed-only : {y : ℕ} → ty ≡ ExprType.Is y → StatesAs call_statement_steps c r tree text l s (Stated.Done c.scope c.counters) l s₁
+    pub typed-only : {y : ℕ} → ty ≡ Ok y → StatesAs call_statement_steps c r tree text l s (Stated.Done c.scope c.counters) l s₁
     typed-only {y = y} w =
         let S = scope_at tree text s c.scope in
         let done = adds-pure S c.counters l p.room in
@@ -440,5 +439,5 @@ module _ {tree text l s : List ℕ} {c : Converter} {r e : ℕ} (p : Converting 
     unfolding typed_own
     none-types = own_types_lem ∙ no_call (exprs (expr_at tree text e)) _
 
-    pub only-types : {y : ℕ} → ty ≡ ExprType.Is y → TypedIn tree text c s (own_types tree text r) s₁
+    pub only-types : {y : ℕ} → ty ≡ Ok y → TypedIn tree text c s (own_types tree text r) s₁
     only-types {y = y} w = subst (λ (z : List ℕ). TypedIn tree text c s z s₁) (sym none-types) (t.adds y w)

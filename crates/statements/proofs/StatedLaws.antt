@@ -1,5 +1,6 @@
 -- What a statement, a block and a part of them owe, from their answers, and one part after another: typing first, an operand first, a step first.
 -- By the laws of steps in a row; the answers are told apart by their constructor, and the scope is the same as long as its names stay. Assumes nothing.
+use Rattle.std.specs.Prelude.{Ok, Err}
 use mathlib.Core.Path.{◌≡◌, refl, sym, ap, ◌∙◌, subst}
 use mathlib.Core.List.{List}
 use Prim.Native.Nat.{ℕ, ◌≤◌}
@@ -24,10 +25,8 @@ use Rattle.ir.proofs.StepLaws.{fail-stops, stop-first}
 use Rattle.scope.specs.declared.Scope.{Scope}
 use Rattle.scope.specs.Open.{scope_at}
 use Rattle.keys.specs.Keys.{all_keys}
-use Rattle.expressions.specs.declared.answers.ExprType.{ExprType}
-use Rattle.expressions.specs.declared.answers.Outcome.{Outcome}
 use Rattle.expressions.specs.Slots.{type_in}
-use Rattle.expressions.specs.Answers.{refusal, outcome_of, TypeMeets}
+use Rattle.expressions.specs.Answers.{Answer, refusal, outcome_of, TypeMeets}
 use Rattle.expressions.proofs.TypingLaws.{type-ok, type-refused}
 use Rattle.statements.specs.Lent.{Converter, Converted, Stated, Finished}
 use Rattle.statements.specs.Meets.{StepAnswer, gave, refused, AddsIn, Meets, texts_of}
@@ -125,7 +124,7 @@ module _ {tree text l s s' : List ℕ} {c : Converter} (p : Converting tree text
 
 -- ---- typing first: the step of the expression e's type, which writes no table
 
-module _ {tree text l s : List ℕ} {c : Converter} {e : ℕ} (p : Converting tree text l s c) {ty : ExprType} {s₁ : List ℕ} (t : TypeMeets tree text s c.scope c.turn e ty s₁) where
+module _ {tree text l s : List ℕ} {c : Converter} {e : ℕ} (p : Converting tree text l s c) {ty : Answer ℕ} {s₁ : List ℕ} (t : TypeMeets tree text s c.scope c.turn e ty s₁) where
   pub type_converting : Converting tree text l s₁ c
   type_converting = converting_frame p t.frame
 
@@ -133,22 +132,22 @@ module _ {tree text l s : List ℕ} {c : Converter} {e : ℕ} (p : Converting tr
   type-stays = frame-stays c.scope.names c.operands t.frame
 
   -- the type is y
-  pub type-known : {y : ℕ} → ty ≡ ExprType.Is y
+  pub type-known : {y : ℕ} → ty ≡ Ok y
       → get_type (program tree text) (all_keys tree text) (expr_at tree text e) (scope_at tree text s c.scope) ≡ ok y
   unfolding type_in
   type-known {y = y} w = type-ok (type_in tree text (scope_at tree text s c.scope) e) ty y t.meets w
 
-  pub type-error : {z : ConvertError} → ty ≡ ExprType.Refused z
+  pub type-error : {z : ConvertError} → ty ≡ Err z
       → get_type (program tree text) (all_keys tree text) (expr_at tree text e) (scope_at tree text s c.scope) ≡ err z.kind z.place
   unfolding type_in refusal
   type-error {z = z} w = type-refused (type_in tree text (scope_at tree text s c.scope) e) ty z t.meets w
 
   module _ {X : Type 0} {n : Amount} (f : ℕ → M X) where
-    pub typed_then_lem : {y : ℕ} {l' : List ℕ} {a : StepAnswer X} → ty ≡ ExprType.Is y → Meets (texts_of tree text) (f y) n c.counters l l' a
+    pub typed_then_lem : {y : ℕ} {l' : List ℕ} {a : StepAnswer X} → ty ≡ Ok y → Meets (texts_of tree text) (f y) n c.counters l l' a
         → Meets (texts_of tree text) (lift (get_type (program tree text) (all_keys tree text) (expr_at tree text e) (scope_at tree text s c.scope)) >>= f) n c.counters l l' a
     typed_then_lem w i = meets-lift (texts_of tree text) f p.room (type-known w) i
 
-    pub typed-not : {z : ConvertError} → ty ≡ ExprType.Refused z
+    pub typed-not : {z : ConvertError} → ty ≡ Err z
         → Meets (texts_of tree text) (lift (get_type (program tree text) (all_keys tree text) (expr_at tree text e) (scope_at tree text s c.scope)) >>= f) n c.counters l l (refused z)
     typed-not w = meets-lift-stop (texts_of tree text) f refl (type-error w)
 
@@ -179,14 +178,14 @@ pub fails_as : {X : Type 0} {k : Counters} {l : List ℕ} {kind : ConvertErrorKi
 fails_as {X = X} {k = k} {l = l} {kind = kind} {r = r} texts q =
     subst (λ (v : ConvertError). StopsIn {A = X} texts (fail kind r) k l v.kind v.place) (sym q) (fail-stops texts k l kind r)
 
-module _ {X : Type 0} {m : M (Unit {0})} (o : Outcome) (q : m ≡ lift (outcome_of o)) (f : M X) where
+module _ {X : Type 0} {m : M (Unit {0})} (o : Answer (Unit {0})) (q : m ≡ lift (outcome_of o)) (f : M X) where
   as_lift : lift (outcome_of o) >>= (λ (u : Unit {0}). f) ≡ m >> f
   as_lift = sym (seq_is (lift (outcome_of o)) f) ∙ ap (λ (z : M (Unit {0})). z >> f) (sym q)
 
-  pub checked_then_lem : {n : Amount} {k : Counters} {l l' : List ℕ} {a : StepAnswer X} (texts : NumberedTexts) → o ≡ Outcome.Done → Room k l → Meets texts f n k l l' a → Meets texts (m >> f) n k l l' a
+  pub checked_then_lem : {n : Amount} {k : Counters} {l l' : List ℕ} {a : StepAnswer X} (texts : NumberedTexts) → o ≡ Ok tt → Room k l → Meets texts f n k l l' a → Meets texts (m >> f) n k l l' a
   unfolding outcome_of
   checked_then_lem texts w room i = meets-same texts as_lift (meets-lift texts (λ (u : Unit {0}). f) room (ap outcome_of w) i)
 
-  pub checked_not : {n : Amount} {k : Counters} {l : List ℕ} {z : ConvertError} (texts : NumberedTexts) → o ≡ Outcome.Refused z → Meets texts (m >> f) n k l l (refused z)
+  pub checked_not : {n : Amount} {k : Counters} {l : List ℕ} {z : ConvertError} (texts : NumberedTexts) → o ≡ Err z → Meets texts (m >> f) n k l l (refused z)
   unfolding outcome_of refusal
   checked_not texts w = meets-same texts as_lift (meets-lift-stop texts (λ (u : Unit {0}). f) refl (ap outcome_of w))

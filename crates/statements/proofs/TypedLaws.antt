@@ -1,13 +1,13 @@
 -- Which records an expression types, as the code meets them: its own, then those of its parts one after another; a refusal owes nothing.
 -- By what a record of each kind stands for, and one part of a turn after another; the scope stays. Assumes nothing.
+use Rattle.std.specs.Prelude.{Ok}
+use Rattle.expressions.specs.declared.answers.Callee as Code-Callee
 use mathlib.Core.Path.{◌≡◌, refl, sym, ◌∙◌, subst}
-use mathlib.Core.List.{List, [], ◌∷◌, ◌++◌}
+use mathlib.Core.List.{List, [], ◌++◌}
 use Prim.Native.Nat.{ℕ, ◌≤◌}
 use native.Mathlib.Omega.{arith}
 use lib.Dec.{leb, ltb}
 use borrow.Author.Tests.{leb-true, ltb-true, ltb-false}
-use types.Run.{OneOf}
-use denote.Enum.Declared.{tag_of}
 use Rattle.laws.proofs.Tests.{tested, and_left}
 use Rattle.records.specs.declared.convert_error.ConvertError.{ConvertError}
 use Rattle.records.specs.Words.{kind_of, word_of, A, B, C}
@@ -20,11 +20,8 @@ use Rattle.conversion.specs.Visits.{typed_expr}
 use Rattle.ir.specs.declared.structs.Counters.{Counters}
 use Rattle.ir.specs.declared.structs.Operand.{Operand}
 use Rattle.scope.specs.Open.{scope_at}
-use Rattle.expressions.specs.declared.answers.ExprType.{ExprType}
-use Rattle.expressions.specs.declared.answers.Resolved.{Resolved}
-use Rattle.expressions.specs.contracts.answers.Resolved.{the_type}
 use Rattle.expressions.specs.Slots.{Frame}
-use Rattle.expressions.specs.Answers.{TypeMeets, CallMeets}
+use Rattle.expressions.specs.Answers.{Answer, TypeMeets, CallMeets}
 use Rattle.expressions.proofs.SlotLaws.{scope-frame}
 use Rattle.expressions.proofs.TurnLaws.{typed-none}
 use Rattle.expressions.proofs.TypingLaws.{expr-low}
@@ -88,7 +85,7 @@ module _ {tree text l s : List ℕ} {c : Converter} (p : Converting tree text l 
   leaf_types {e} {k} x ek h t o k' q = subst (λ (z : List ℕ). TypedIn tree text c s z s) (sym (leaf_none p.ready.keyed.good x (omega arith)))
       (typed-none tree text (scope_at tree text s c.scope) c.turn s t)
 
-  module _ {e : ℕ} {ty : ExprType} {s₁ : List ℕ} (m : TypeMeets tree text s c.scope c.turn e ty s₁) {y : ℕ} (w : ty ≡ ExprType.Is y) where
+  module _ {e : ℕ} {ty : Answer ℕ} {s₁ : List ℕ} (m : TypeMeets tree text s c.scope c.turn e ty s₁) {y : ℕ} (w : ty ≡ Ok y) where
     pub typed-in_turn : InTurn tree text s₁ c
     typed-in_turn = in_turn-next c (same-frame m.frame) (m.adds y w)
 
@@ -104,7 +101,7 @@ module _ {tree text l s : List ℕ} {c : Converter} (p : Converting tree text l 
 
   -- ---- a Binary: the common type of its sides, then the sides
 
-  module _ {e y : ℕ} {t : ExprType} {s₁ : List ℕ} (m : OperandTyped tree text s c e y t s₁) (u : CommonTyped c e tree text s t s₁) {q : ℕ} (w : t ≡ ExprType.Is q) where
+  module _ {e y : ℕ} {t : Answer ℕ} {s₁ : List ℕ} (m : OperandTyped tree text s c e y t s₁) (u : CommonTyped c e tree text s t s₁) {q : ℕ} (w : t ≡ Ok q) where
     pub common_in-turn : InTurn tree text s₁ c
     common_in-turn = in_turn-next c (same-frame m.frame) (u q w)
 
@@ -130,9 +127,9 @@ module _ {tree text l s : List ℕ} {c : Converter} (p : Converting tree text l 
 
   -- ---- a call: its callee, then its values; the rest types nothing
 
-  module _ {e : ℕ} {callee : Resolved} {s₁ : List ℕ} (m : CallMeets tree text s c.scope c.turn e callee s₁) (not : OneOf (0 ∷ 1 ∷ []) (tag_of the_type callee)) where
+  module _ {e : ℕ} {callee : Answer Code-Callee.Callee} {s₁ : List ℕ} {g : Code-Callee.Callee} (m : CallMeets tree text s c.scope c.turn e callee s₁) (not : callee ≡ Ok g) where
     callee-typed : TypedIn tree text c s (args_exprs (args_at tree text (word_of tree e C))) s₁
-    callee-typed = let to = callee-is tree text callee not in m.adds to.to to.is
+    callee-typed = let to = callee-is tree text _ not in m.adds to.to to.is
 
     pub called_in_turn : InTurn tree text s₁ c
     called_in_turn = in_turn-next c (same-frame m.frame) callee-typed

@@ -1,6 +1,7 @@
 -- What each answer says, as the definitions of conversion say it: a result with how far the tables are written, or a refusal's kind and place;
 -- and which definition each function of statements.rs equals. Assumes nothing: these are definitions.
-use Rattle.std.specs.Prelude.{◌≡◌, ℕ, suc, ◌+◌, ◌*◌, ◌≤◌, Bool, false, List, eqb, length, get_or}
+use Rattle.expressions.specs.declared.answers.Callee as Code-Callee
+use Rattle.std.specs.Prelude.{◌≡◌, ℕ, suc, ◌+◌, ◌*◌, ◌≤◌, Bool, false, List, eqb, length, get_or, Result}
 use Rattle.std.proofs.Math.Option.{none, some}
 use Rattle.laws.specs.Fix.{pick}
 use Rattle.records.specs.Kinds.{kind_declare, kind_init, kind_return, kind_break}
@@ -15,27 +16,28 @@ use Rattle.conversion.specs.Scope as Def
 use Rattle.conversion.specs.Scope.{with_loop}
 use Rattle.conversion.specs.Expressions.{Functions, Callee, CallFunction}
 use Rattle.conversion.specs.Statements.{zero_value, fit_operand, check_bound, parameter_type, value_position, expected_type, fit_args, cast_first, call_value, convert_unary, convert_and, convert_or, convert_other, convert_binary, convert_call_value, convert_expr, convert_args, convert_cond, call_function, convert_declare, convert_init, init_new, convert_assign, assign_to, convert_return, return_as, convert_call, convert_break, convert_continue, convert_if, convert_if_else, convert_while_loop, convert_for_loop, convert_statement, convert_block}
+use Rattle.records.specs.declared.convert_error.ConvertError.{ConvertError}
+use Rattle.records.specs.declared.convert_error.ConvertErrorKind.{ConvertErrorKind}
 use Rattle.ir.specs.declared.structs.Counters.{Counters}
 use Rattle.ir.specs.declared.structs.VarId.{VarId}
 use Rattle.ir.specs.declared.structs.Operand.{Operand}
 use Rattle.ir.specs.Instructions.{operand_of, var_of}
 use Rattle.ir.specs.Amounts.{Amount, amount, both}
 use Rattle.ir.specs.Arena.{Room}
+use Rattle.ir.specs.Steps.{named}
 use Rattle.scope.specs.declared.Scope.{Scope}
 use Rattle.scope.specs.Open.{scope_at}
 use Rattle.keys.specs.Keys.{all_keys}
-use Rattle.expressions.specs.declared.answers.ExprType.{ExprType}
 use Rattle.expressions.specs.Slots.{Frame, Ready, common_in}
-use Rattle.expressions.specs.declared.answers.Outcome.{Outcome}
-use Rattle.expressions.specs.declared.answers.Resolved.{Resolved}
-use Rattle.expressions.specs.Answers.{IsTyped, type_result, outcome_of, callee_of}
+use Rattle.expressions.specs.Answers.{Answer, IsTyped, type_result, outcome_of, callee_of}
 use Rattle.statements.specs.Lent.{Converter, Converted, ConvertedArgs, Stated, Finished, ForVariable, Fitted, at, converted, found_variable}
 use Rattle.statements.specs.declared.answers.Converter as Code-Converter
-use Rattle.statements.specs.declared.answers.Converted as Code-Converted
 use Rattle.statements.specs.declared.answers.ForVariable as Code-ForVariable
 use Rattle.statements.specs.declared.answers.AtValue.{AtValue}
+use Rattle.statements.specs.declared.numbers.LabelKind.{LabelKind}
+use Rattle.statements.specs.Labels.{label_number}
 use Rattle.statements.specs.Meets.{StepAnswer, gave, refused, Adds, AddsIn, Meets, texts_of}
-use Rattle.statements.specs.Parts.{operand_type, join_and, join_or, finish_binary, count_on, if_head, while_head, for_variable, for_bounds, for_begin, for_test, for_turns, for_head, declare_init, pass_args, finish_call}
+use Rattle.statements.specs.Parts.{operand_type, join_and, join_or, finish_binary, count_on, if_head, while_head, for_variable, for_bounds, for_begin, for_test, for_turns, for_head, declare_init, loop_jump, pass_args, finish_call}
 use Rattle.statements.specs.Stack.{stack_at}
 use Rattle.syntax.specs.Count.{under, statement_records, block_records, args_under, args_values}
 use Rattle.statements.specs.Converting.{Converting, Afforded, OperandIn, StackIn, StaysFor, NamesStay, expr_amount, args_amount, behind_amount, statement_amount, block_amount, head_amount, turns_amount, for_head_amount}
@@ -121,7 +123,7 @@ pub record Finishes {A : Type 0} (tree text : List ℕ) (m : M A) (x : A) (n : A
   pub stays : StaysFor tree c s s'
 
 -- the type that the sides of the Binary e, of type y, are fitted to
-pub record OperandTyped (tree text s : List ℕ) (c : Converter) (e y : ℕ) (a : ExprType) (s' : List ℕ) : Type 0 where
+pub record OperandTyped (tree text s : List ℕ) (c : Converter) (e y : ℕ) (a : Answer ℕ) (s' : List ℕ) : Type 0 where
   pub frame : Frame tree s s'
   pub typed : IsTyped tree a
   pub meets : operand_type (common_in tree text (scope_at tree text s c.scope) e) y ≡ type_result a
@@ -133,7 +135,7 @@ pub record FindsVariable (tree text : List ℕ) (m : M (Ir.VarId × Def.Scope)) 
   pub stays : StaysFor tree c s s'
 
 -- what writes no table: it is fine, or refused
-pub record Checks (tree : List ℕ) (m : M (Unit {0})) (s : List ℕ) (a : Outcome) (s' : List ℕ) : Type 0 where
+pub record Checks (tree : List ℕ) (m : M (Unit {0})) (s : List ℕ) (a : Answer (Unit {0})) (s' : List ℕ) : Type 0 where
   pub meets : m ≡ lift (outcome_of a)
   pub frame : Frame tree s s'
 
@@ -224,6 +226,10 @@ module _ (tree text s : List ℕ) (c : Converter) where
 
   abbrev pub continue_steps : ℕ → M Def.Scope
   continue_steps r = convert_continue (program tree text) (all_keys tree text) r scope_in.in_loop scope_in
+
+  -- the jump of either, to a label of this kind, and how it is refused
+  abbrev pub loop_jump_steps : ℕ → LabelKind → ConvertErrorKind → M Def.Scope
+  loop_jump_steps r kind e = loop_jump (named (label_number kind)) e r scope_in.in_loop scope_in
 
   abbrev pub if_steps : ℕ → M Def.Scope
   if_steps r = pick (bit 1 (detail_of tree r))
@@ -318,10 +324,10 @@ abbrev pub LeafConverts : Amount → Converter → ℕ → List ℕ → List ℕ
 LeafConverts n c e tree text l s a l' = Converts tree text (expr_steps tree text s c e) n c l s a l' s
 
 -- one that adds nothing, whatever the counters and the tables are; and whatever the scope and the scratch are
-abbrev pub LeafStays : Code-Converter.Converter → ℕ → List ℕ → List ℕ → List ℕ → Code-Converted.Converted → Type 0
+abbrev pub LeafStays : Code-Converter.Converter → ℕ → List ℕ → List ℕ → List ℕ → Result Operand ConvertError → Type 0
 LeafStays c e tree text s a = (k l : List ℕ) → Converting tree text l s (at c k) → LeafConverts (amount 0 0 0 0 0) (at c k) e tree text l s (converted k a) l
 
-abbrev pub LeafAnywhere : ℕ → List ℕ → List ℕ → Code-Converted.Converted → Type 0
+abbrev pub LeafAnywhere : ℕ → List ℕ → List ℕ → Result Operand ConvertError → Type 0
 LeafAnywhere e tree text a = (c : Code-Converter.Converter) (s : List ℕ) → LeafStays c e tree text s a
 
 -- the operand o fitted to the type expected, whatever the text; the integer `bits`, which adds nothing
@@ -362,7 +368,7 @@ abbrev pub VariableAs : StepsAt (Ir.VarId × Def.Scope) → Converter → ℕ �
 VariableAs steps c r tree text l s a l' s' = FindsVariable tree text (steps tree text s c r) c l s a l' s'
 
 -- one that adds nothing, whatever the counters and the tables are
-abbrev pub VariableStays : StepsAt (Ir.VarId × Def.Scope) → Code-Converter.Converter → ℕ → List ℕ → List ℕ → List ℕ → Code-ForVariable.ForVariable → Type 0
+abbrev pub VariableStays : StepsAt (Ir.VarId × Def.Scope) → Code-Converter.Converter → ℕ → List ℕ → List ℕ → List ℕ → Result Code-ForVariable.ForVariable ConvertError → Type 0
 VariableStays steps c r tree text s a = (k l : List ℕ) → Converting tree text l s (at c k) → VariableAs steps (at c k) r tree text l s (found_variable k a) l s
 
 -- the If, While or For r behind its comment, which leaves the scope as it was
@@ -454,7 +460,7 @@ CallsAs e f dest count c tree text l s a l' s' =
     (amount (2 * count + 1) count 0 0 count) c l s a l' s'
 
 -- the call, of type y, is ended with them, where its callee was found
-abbrev pub CallEndsAs : ℕ → ℕ → Resolved → ℕ → Converter → List ℕ → List ℕ → List ℕ → List ℕ → Converted → List ℕ → List ℕ → Type 0
+abbrev pub CallEndsAs : ℕ → ℕ → Answer Code-Callee.Callee → ℕ → Converter → List ℕ → List ℕ → List ℕ → List ℕ → Converted → List ℕ → List ℕ → Type 0
 CallEndsAs e y callee count c tree text l s a l' s' =
     (to : Callee) → callee_of tree text callee ≡ ok to
     → Converts tree text (finish_call (program tree text) (all_keys tree text) e y (args_at tree text (word_of tree e C)) (waiting tree s c count) to) (amount (2 * count + 1) (count + 1) 0 0 count) c l s a l' s'

@@ -1,4 +1,5 @@
 pub mod Stack
+pub mod Labels
 pub mod Converting
 pub mod Lent
 pub mod Meets

@@ -6,7 +6,7 @@ use Rattle.std.proofs.Math.Option.{Option, none, some}
 use Rattle.laws.specs.Fix.{pick}
 use Rattle.syntax.specs.Syntax.{Text, UnaryOp, BinaryOp, Lt, Add, Expr, Args, Function, Program, bool_type, null_type, address_of_null}
 use Rattle.conversion.specs.ConvertError as C
-use Rattle.conversion.specs.ConvertError.{Result, ok, UnknownVariable, AssignToConstant, NotInteger}
+use Rattle.conversion.specs.ConvertError.{ConvertErrorKind, Result, ok, UnknownVariable, AssignToConstant, NotInteger}
 use Rattle.conversion.specs.Ir.{VarId, Operand, OVar, OInt, OFloat, Copy, Unary, Binary, Label, Jump, JumpIfNot, LabelName, loop_start, loop_end, loop_check, otherwise_label, condition_end, logic_rhs, logic_end, M, ◌>>=◌, ◌>>◌, pure, fail, lift, emit, new_var, label_id, float_id}
 use Rattle.conversion.specs.Scope.{Variable, Scope, declare, find_variable}
 use Rattle.conversion.specs.Types.{on_int}
@@ -228,3 +228,11 @@ unfolding ◌>>◌ emit_jump place_label
 loop_back r = do
   emit_jump (loop_start r)
   place_label (loop_end r)
+
+-- a jump to this label of the innermost loop, which leaves the scope; outside of all loops it is refused
+unfoldable pub loop_jump : (ℕ → LabelName) → ConvertErrorKind → ℕ → Option ℕ → Scope → M Scope
+unfolding ◌>>◌ pure fail emit_jump
+loop_jump label e r none sc = fail e r
+loop_jump label e r (some x) sc = do
+  emit_jump (label x)
+  pure sc

@@ -1,6 +1,7 @@
 -- Document 02, point 9, over whole statements: a statement is a turn, in which each of its expressions is typed once; what was typed, and how many visits
 -- were made. Assumes nothing: these are definitions.
-use Rattle.std.specs.Prelude.{◌≡◌, ℕ, ◌+◌, ◌*◌, ◌≤◌, ◌<◌, List, [], ◌++◌}
+use Rattle.expressions.specs.Answers.{Answer}
+use Rattle.std.specs.Prelude.{◌≡◌, ℕ, ◌+◌, ◌*◌, ◌≤◌, ◌<◌, List, [], ◌++◌, Ok}
 use Rattle.records.specs.Layout as Layout
 use Rattle.records.specs.Layout.{end_of, type_slots}
 use Rattle.records.specs.Words.{byte_at, word_of, records, A, B, C}
@@ -12,8 +13,6 @@ use Rattle.ir.specs.declared.structs.Operand.{Operand}
 use Rattle.ir.specs.declared.structs.VarId.{VarId}
 use Rattle.scope.specs.declared.Scope.{Scope}
 use Rattle.scope.specs.Open.{scope_at}
-use Rattle.expressions.specs.declared.answers.ExprType.{ExprType}
-use Rattle.expressions.specs.declared.answers.Outcome.{Outcome}
 use Rattle.expressions.specs.Slots.{turn_at, visits_at, Remembers, Typed}
 use Rattle.statements.specs.Lent.{Converter, Converted, ConvertedArgs, Stated, Finished, ForVariable}
 
@@ -136,12 +135,12 @@ FinishesTyped types c r tree text s a s' = (k : Counters) → a ≡ Finished.Don
 abbrev pub VariableTyped : Converter → List ℕ → List ℕ → List ℕ → ForVariable → List ℕ → Type 0
 VariableTyped c tree text s a s' = (x : VarId) (sc : Scope) (k : Counters) → a ≡ ForVariable.Is x sc k → TypedIn tree text c s [] s'
 
-abbrev pub ChecksTyped : TypesAt → Converter → ℕ → List ℕ → List ℕ → List ℕ → Outcome → List ℕ → Type 0
-ChecksTyped types c r tree text s a s' = a ≡ Outcome.Done → TypedIn tree text c s (types tree text r) s'
+abbrev pub ChecksTyped : TypesAt → Converter → ℕ → List ℕ → List ℕ → List ℕ → Answer (Unit {0}) → List ℕ → Type 0
+ChecksTyped types c r tree text s a s' = a ≡ Ok tt → TypedIn tree text c s (types tree text r) s'
 
 -- the common type of the sides of the Binary e
-abbrev pub CommonTyped : Converter → ℕ → List ℕ → List ℕ → List ℕ → ExprType → List ℕ → Type 0
-CommonTyped c e tree text s a s' = (y : ℕ) → a ≡ ExprType.Is y → TypedIn tree text c s (common_types tree text e) s'
+abbrev pub CommonTyped : Converter → ℕ → List ℕ → List ℕ → List ℕ → Answer ℕ → List ℕ → Type 0
+CommonTyped c e tree text s a s' = (y : ℕ) → a ≡ Ok y → TypedIn tree text c s (common_types tree text e) s'
 
 -- a whole statement, as a statement's answer and as one that leaves the scope as it was; and a block
 abbrev pub StatementVisited : ℕ → List ℕ → List ℕ → List ℕ → Stated → List ℕ → Type 0

@@ -1,7 +1,8 @@
-// What everything that converts takes beside what is lent, and what is answered: only what changed.
+// What everything that converts takes beside what is lent. Only what changed is answered: an expression answers its operand, the arguments of a call
+// how many values were put on the stack, a statement the scope for what follows it, and a block nothing.
 ghost use Rattle.std.specs.Prelude.{◌≡◌, ◌<◌};
 
-use ir::structs::{Operand, VarId};
+use ir::structs::VarId;
 use records::convert_error::{ConvertError, ConvertErrorKind};
 use scope::Scope;
 
@@ -14,39 +15,11 @@ pub struct Converter {
     pub turn: u32,
 }
 
-// An expression: its operand.
-#[derive(Clone, Copy)]
-pub enum Converted {
-    Is(Operand),
-    Refused(ConvertError),
-}
-
-// The arguments of a call: how many values were put on the stack.
-#[derive(Clone, Copy)]
-pub enum ConvertedArgs {
-    Done(usize),
-    Refused(ConvertError),
-}
-
-// A statement: the scope for what follows it.
-#[derive(Clone, Copy)]
-pub enum Stated {
-    Done(Scope),
-    Refused(ConvertError),
-}
-
-// A block, or what leaves the scope as it was.
-#[derive(Clone, Copy)]
-pub enum Finished {
-    Done,
-    Refused(ConvertError),
-}
-
 // The variable of a For, and the scope of its body.
 #[derive(Clone, Copy)]
-pub(crate) enum ForVariable {
-    Is(VarId, Scope),
-    Refused(ConvertError),
+pub(crate) struct ForVariable {
+    pub var: VarId,
+    pub scope: Scope,
 }
 
 // A value of a call: the parameter at its position, and the arguments behind it. Each is a cell, or END.

@@ -7,10 +7,10 @@ ghost use Rattle.syntax.specs.Places.{IsKind, IsStatement, BodyAt};
 ghost use Rattle.ir.specs.Counted.{counted};
 ghost use Rattle.statements.specs.Converting.{Converting, BehindAfforded, StatementAfforded, BlockAfforded};
 ghost use Rattle.statements.specs.Lent.{at, stated, finished_with};
-ghost use Rattle.statements.specs.Answers.{StatesAs, StatementAs, BlockAs, FinishesAs, stated_with, plain_steps, jump_steps, statement_steps, block_steps, if_steps, while_steps, for_steps};
+ghost use Rattle.statements.specs.Answers.{StatesAs, StatementAs, BlockAs, FinishesAs, plain_steps, jump_steps, statement_steps, block_steps, if_steps, while_steps, for_steps};
 ghost use Rattle.statements.specs.Turns.{Turns, Fresh, InTurn, own_types, StatesTyped, StatementVisited, FinishedVisited, BlockVisited};
 
-use crate::answers::{Converter, Finished, Stated};
+use crate::answers::Converter;
 use crate::loops::{for_head, has_otherwise, if_end, if_head, if_middle, loop_end, while_head};
 use crate::statements::{
     convert_break, convert_call, convert_continue, convert_declare, convert_init, convert_return,
@@ -18,6 +18,7 @@ use crate::statements::{
 use expressions::arguments::{END, next_cell};
 use ir::lent::COUNT_INSTRUCTIONS;
 use ir::structs::emit_comment;
+use records::convert_error::ConvertError;
 use records::numbers::{
     KIND_BREAK, KIND_CALL_STATEMENT, KIND_DECLARE, KIND_IF, KIND_INIT, KIND_RETURN, KIND_WHILE,
 };
@@ -33,7 +34,7 @@ fn convert_plain(
     k: &mut [usize],
     c: Converter,
     r: usize,
-) -> Stated
+) -> Result<Scope, ConvertError>
     requires converting { Converting tree.now text.now arena.old scratch.old (at c k.old) × BehindAfforded tree.now text.now (at c k.old) r }
     requires statement { IsStatement tree.now r × (kind_of tree.now r ≤ kind_call_statement) }
     requires in_turn { InTurn tree.now text.now scratch.old (at c k.old) }
@@ -62,7 +63,7 @@ fn convert_jump(
     k: &mut [usize],
     c: Converter,
     r: usize,
-) -> Stated
+) -> Result<Scope, ConvertError>
     requires converting { Converting tree.now text.now arena.old scratch.now (at c k.old) × BehindAfforded tree.now text.now (at c k.old) r }
     requires statement { IsStatement tree.now r × (kind_break ≤ kind_of tree.now r) }
     ensures { StatesAs jump_steps (at c k.old) r tree.now text.now arena.old scratch.now (stated k.new result) arena.new scratch.now }
@@ -73,17 +74,7 @@ fn convert_jump(
     convert_continue(tree, text, arena, scratch, k, c, r)
 }
 
-// What a statement with blocks answers: it leaves the scope as it was.
-fn stated(scope: Scope, done: Finished) -> Stated
-    ensures { (k : List ℕ) → stated k result ≡ stated_with scope (finished_with k done) }
-{
-    match done {
-        Finished::Refused(x) => Stated::Refused(x),
-        Finished::Done => Stated::Done(scope),
-    }
-}
-
-// The statement r, with its comment first. Its turn is told by how far the instructions are, so that no earlier one has the same.
+// The statement r, with its comment first; one with blocks leaves the scope as it was. Its turn is told by how far the instructions are, so that no earlier one has the same.
 #[cycle(convert_block_convert_for_loop_convert_if_convert_statement_convert_while_loop)]
 fn convert_statement(
     tree: &[u8],
@@ -93,18 +84,19 @@ fn convert_statement(
     k: &mut [usize],
     c: Converter,
     r: usize,
-) -> Stated
+) -> Result<Scope, ConvertError>
     requires converting { Converting tree.now text.now arena.old scratch.old (at c k.old) × StatementAfforded tree.now text.now (at c k.old) r }
     requires statement { IsStatement tree.now r }
     requires turns { Turns tree.now scratch.old (counted k.old) }
     ensures statement_as { StatementAs statement_steps (at c k.old) r tree.now text.now arena.old scratch.old (stated k.new result) arena.new scratch.new }
     ensures visits { StatementVisited r tree.now text.now scratch.old (stated k.new result) scratch.new }
 {
-    let scope = c.scope;
     let node = kind(tree, r);
     emit_comment(arena, k, r as u32);
-    let mut at = c;
-    at.turn = k[COUNT_INSTRUCTIONS] as u32;
+    let at = Converter {
+        turn: k[COUNT_INSTRUCTIONS] as u32,
+        ..c
+    };
     if node <= KIND_CALL_STATEMENT {
         return convert_plain(tree, text, arena, scratch, k, at, r);
     }
@@ -112,18 +104,15 @@ fn convert_statement(
         return convert_jump(tree, text, arena, scratch, k, at, r);
     }
     if node == KIND_IF {
-        return stated(scope, convert_if(tree, text, arena, scratch, k, at, r));
+        convert_if(tree, text, arena, scratch, k, at, r)?;
+        return Ok(c.scope);
     }
     if node == KIND_WHILE {
-        return stated(
-            scope,
-            convert_while_loop(tree, text, arena, scratch, k, at, r),
-        );
+        convert_while_loop(tree, text, arena, scratch, k, at, r)?;
+        return Ok(c.scope);
     }
-    stated(
-        scope,
-        convert_for_loop(tree, text, arena, scratch, k, at, r),
-    )
+    convert_for_loop(tree, text, arena, scratch, k, at, r)?;
+    Ok(c.scope)
 }
 
 // The block whose first cell this is, in a scope of its own.
@@ -136,7 +125,7 @@ pub fn convert_block(
     k: &mut [usize],
     c: Converter,
     first: usize,
-) -> Finished
+) -> Result<(), ConvertError>
     requires converting { Converting tree.now text.now arena.old scratch.old (at c k.old) × BlockAfforded tree.now text.now (at c k.old) first }
     requires body_at { BodyAt tree.now first }
     requires turns { Turns tree.now scratch.old (counted k.old) }
@@ -147,13 +136,10 @@ pub fn convert_block(
     let mut at = c;
     while cell != END {
         let r = reference(tree, cell, WORD_A);
-        match convert_statement(tree, text, arena, scratch, k, at, r) {
-            Stated::Refused(x) => return Finished::Refused(x),
-            Stated::Done(scope) => at.scope = scope,
-        }
+        at.scope = convert_statement(tree, text, arena, scratch, k, at, r)?;
         cell = next_cell(tree, cell);
     }
-    Finished::Done
+    Ok(())
 }
 
 // The If r.
@@ -166,7 +152,7 @@ fn convert_if(
     k: &mut [usize],
     c: Converter,
     r: usize,
-) -> Finished
+) -> Result<(), ConvertError>
     requires converting { Converting tree.now text.now arena.old scratch.old (at c k.old) × BehindAfforded tree.now text.now (at c k.old) r }
     requires kind { IsKind tree.now kind_if r }
     requires fresh { Fresh tree.now scratch.old (at c k.old) }
@@ -175,27 +161,14 @@ fn convert_if(
 {
     let then = reference(tree, r, WORD_B);
     let otherwise = reference(tree, r, WORD_C);
-    let head = if_head(tree, text, arena, scratch, k, c, r);
-    let Finished::Done = head else {
-        return head;
-    };
-    match convert_block(tree, text, arena, scratch, k, c, then) {
-        Finished::Refused(x) => Finished::Refused(x),
-        Finished::Done => {
-            if !has_otherwise(tree, r) {
-                if_end(arena, k, r);
-                return Finished::Done;
-            }
-            if_middle(arena, k, r);
-            match convert_block(tree, text, arena, scratch, k, c, otherwise) {
-                Finished::Refused(x) => Finished::Refused(x),
-                Finished::Done => {
-                    if_end(arena, k, r);
-                    Finished::Done
-                }
-            }
-        }
+    if_head(tree, text, arena, scratch, k, c, r)?;
+    convert_block(tree, text, arena, scratch, k, c, then)?;
+    if has_otherwise(tree, r) {
+        if_middle(arena, k, r);
+        convert_block(tree, text, arena, scratch, k, c, otherwise)?;
     }
+    if_end(arena, k, r);
+    Ok(())
 }
 
 // The While r.
@@ -208,30 +181,22 @@ fn convert_while_loop(
     k: &mut [usize],
     c: Converter,
     r: usize,
-) -> Finished
+) -> Result<(), ConvertError>
     requires converting { Converting tree.now text.now arena.old scratch.old (at c k.old) × BehindAfforded tree.now text.now (at c k.old) r }
     requires kind { IsKind tree.now kind_while r }
     requires fresh { Fresh tree.now scratch.old (at c k.old) }
     ensures finishes_as { FinishesAs while_steps (at c k.old) r tree.now text.now arena.old scratch.old (finished_with k.new result) arena.new scratch.new }
     ensures visits { FinishedVisited r tree.now text.now scratch.old (finished_with k.new result) scratch.new }
 {
-    let scope = c.scope;
-    let inner = scope.with_loop(r as u32);
+    let inner = Converter {
+        scope: c.scope.with_loop(r as u32),
+        ..c
+    };
     let body = reference(tree, r, WORD_B);
-    match while_head(tree, text, arena, scratch, k, c, r) {
-        Finished::Refused(x) => Finished::Refused(x),
-        Finished::Done => {
-            let mut at = c;
-            at.scope = inner;
-            match convert_block(tree, text, arena, scratch, k, at, body) {
-                Finished::Refused(x) => Finished::Refused(x),
-                Finished::Done => {
-                    loop_end(arena, k, r);
-                    Finished::Done
-                }
-            }
-        }
-    }
+    while_head(tree, text, arena, scratch, k, c, r)?;
+    convert_block(tree, text, arena, scratch, k, inner, body)?;
+    loop_end(arena, k, r);
+    Ok(())
 }
 
 // The For r.
@@ -244,7 +209,7 @@ fn convert_for_loop(
     k: &mut [usize],
     c: Converter,
     r: usize,
-) -> Finished
+) -> Result<(), ConvertError>
     requires converting { Converting tree.now text.now arena.old scratch.old (at c k.old) × BehindAfforded tree.now text.now (at c k.old) r }
     requires kind { IsKind tree.now kind_for r }
     requires fresh { Fresh tree.now scratch.old (at c k.old) }
@@ -252,19 +217,12 @@ fn convert_for_loop(
     ensures visits { FinishedVisited r tree.now text.now scratch.old (finished_with k.new result) scratch.new }
 {
     let body = reference(tree, r, WORD_D);
-    match for_head(tree, text, arena, scratch, k, c, r) {
-        Stated::Refused(x) => Finished::Refused(x),
-        Stated::Done(scope) => {
-            let inner = scope.with_loop(r as u32);
-            let mut at = c;
-            at.scope = inner;
-            match convert_block(tree, text, arena, scratch, k, at, body) {
-                Finished::Refused(x) => Finished::Refused(x),
-                Finished::Done => {
-                    loop_end(arena, k, r);
-                    Finished::Done
-                }
-            }
-        }
-    }
+    let scope = for_head(tree, text, arena, scratch, k, c, r)?;
+    let inner = Converter {
+        scope: scope.with_loop(r as u32),
+        ..c
+    };
+    convert_block(tree, text, arena, scratch, k, inner, body)?;
+    loop_end(arena, k, r);
+    Ok(())
 }

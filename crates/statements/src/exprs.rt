@@ -10,14 +10,15 @@ ghost use Rattle.statements.specs.Lent.{at, converted, converted_args};
 ghost use Rattle.statements.specs.Answers.{givens, given, expr_steps, unary_steps, logic_steps, other_steps, binary_steps, call_steps, args_steps, ConvertsAs, CallArgsAs};
 ghost use Rattle.statements.specs.Turns.{InTurn, expr_types, unary_types, sides_types, binary_types, args_types, call_types, ConvertsTyped, ArgumentsTyped};
 
-use crate::answers::{Converted, ConvertedArgs, Converter};
+use crate::answers::Converter;
 use crate::operands::{operand, push_operand};
 use crate::parts::{
     begin_logic, end_logic, finish_binary, finish_call, finish_unary, join_logic, operand_type,
 };
-use expressions::answers::{ExprType, Resolved};
 use expressions::arguments::{Argument, END, argument_at, next_cell};
 use expressions::expressions::{get_type, resolve_call};
+use ir::structs::Operand;
+use records::convert_error::ConvertError;
 use records::numbers::{AND, KIND_BINARY, KIND_SIZE_OF, KIND_UNARY};
 use records::words::{RECORD_BYTES, WORD_A, WORD_B, WORD_C, detail, kind, reference};
 
@@ -31,30 +32,25 @@ pub(crate) fn convert_expr(
     k: &mut [usize],
     c: Converter,
     e: usize,
-) -> Converted
+) -> Result<Operand, ConvertError>
     requires converting { Converting tree.now text.now arena.old scratch.old (at c k.old) × ExprAfforded tree.now text.now (at c k.old) e }
     requires expr { IsExpr tree.now e }
     requires in_turn { InTurn tree.now text.now scratch.old (at c k.old) }
     ensures converts_as { ConvertsAs expr_steps (at c k.old) e tree.now text.now arena.old scratch.old (converted k.new result) arena.new scratch.new }
     ensures types { ConvertsTyped expr_types (at c k.old) e tree.now text.now scratch.old (converted k.new result) scratch.new }
 {
-    let scope = c.scope;
     let node = kind(tree, e);
     if node <= KIND_SIZE_OF {
         return operand(tree, text, arena, scratch, k, c, e);
     }
-    match get_type(tree, text, scratch, scope, c.turn, e) {
-        ExprType::Refused(x) => Converted::Refused(x),
-        ExprType::Is(y) => {
-            if node == KIND_UNARY {
-                return convert_unary(tree, text, arena, scratch, k, c, e, y);
-            }
-            if node == KIND_BINARY {
-                return convert_binary(tree, text, arena, scratch, k, c, e, y);
-            }
-            convert_call_value(tree, text, arena, scratch, k, c, e, y)
-        }
+    let y = get_type(tree, text, scratch, c.scope, c.turn, e)?;
+    if node == KIND_UNARY {
+        return convert_unary(tree, text, arena, scratch, k, c, e, y);
     }
+    if node == KIND_BINARY {
+        return convert_binary(tree, text, arena, scratch, k, c, e, y);
+    }
+    convert_call_value(tree, text, arena, scratch, k, c, e, y)
 }
 
 // The Unary e, of type y.
@@ -68,7 +64,7 @@ fn convert_unary(
     c: Converter,
     e: usize,
     y: usize,
-) -> Converted
+) -> Result<Operand, ConvertError>
     requires converting { Converting tree.now text.now arena.old scratch.old (at c k.old) × ExprAfforded tree.now text.now (at c k.old) e }
     requires kind { IsKind tree.now kind_unary e × TypeAt tree.now y }
     requires in_turn { InTurn tree.now text.now scratch.old (at c k.old) }
@@ -77,10 +73,8 @@ fn convert_unary(
 {
     let op = detail(tree, e);
     let part = reference(tree, e, WORD_A);
-    match convert_expr(tree, text, arena, scratch, k, c, part) {
-        Converted::Refused(x) => Converted::Refused(x),
-        Converted::Is(src) => Converted::Is(finish_unary(arena, k, op, src, y)),
-    }
+    let src = convert_expr(tree, text, arena, scratch, k, c, part)?;
+    Ok(finish_unary(arena, k, op, src, y))
 }
 
 // The Binary e, of type y.
@@ -94,22 +88,18 @@ fn convert_binary(
     c: Converter,
     e: usize,
     y: usize,
-) -> Converted
+) -> Result<Operand, ConvertError>
     requires converting { Converting tree.now text.now arena.old scratch.old (at c k.old) × ExprAfforded tree.now text.now (at c k.old) e }
     requires kind { IsKind tree.now kind_binary e × TypeAt tree.now y }
     requires in_turn { InTurn tree.now text.now scratch.old (at c k.old) }
     ensures converts_as { ConvertsAs (given binary_steps y) (at c k.old) e tree.now text.now arena.old scratch.old (converted k.new result) arena.new scratch.new }
     ensures types { ConvertsTyped binary_types (at c k.old) e tree.now text.now scratch.old (converted k.new result) scratch.new }
 {
-    match operand_type(tree, text, scratch, c, e, y) {
-        ExprType::Refused(x) => Converted::Refused(x),
-        ExprType::Is(q) => {
-            if detail(tree, e) <= AND {
-                return convert_logic(tree, text, arena, scratch, k, c, e, y);
-            }
-            convert_other(tree, text, arena, scratch, k, c, e, y, q)
-        }
+    let q = operand_type(tree, text, scratch, c, e, y)?;
+    if detail(tree, e) <= AND {
+        return convert_logic(tree, text, arena, scratch, k, c, e, y);
     }
+    convert_other(tree, text, arena, scratch, k, c, e, y, q)
 }
 
 // The And or Or e: the right side is computed only where the left one does not decide.
@@ -123,7 +113,7 @@ fn convert_logic(
     c: Converter,
     e: usize,
     y: usize,
-) -> Converted
+) -> Result<Operand, ConvertError>
     requires converting { Converting tree.now text.now arena.old scratch.old (at c k.old) × ExprAfforded tree.now text.now (at c k.old) e }
     requires kind { IsKind tree.now kind_binary e × TypeAt tree.now y }
     requires in_turn { InTurn tree.now text.now scratch.old (at c k.old) }
@@ -133,16 +123,10 @@ fn convert_logic(
     let left = reference(tree, e, WORD_A);
     let right = reference(tree, e, WORD_B);
     let dest = begin_logic(arena, k, e, y);
-    match convert_expr(tree, text, arena, scratch, k, c, left) {
-        Converted::Refused(x) => Converted::Refused(x),
-        Converted::Is(a) => {
-            join_logic(tree, arena, k, e, dest, a);
-            match convert_expr(tree, text, arena, scratch, k, c, right) {
-                Converted::Refused(x) => Converted::Refused(x),
-                Converted::Is(b) => Converted::Is(end_logic(arena, k, e, dest, b)),
-            }
-        }
-    }
+    let a = convert_expr(tree, text, arena, scratch, k, c, left)?;
+    join_logic(tree, arena, k, e, dest, a);
+    let b = convert_expr(tree, text, arena, scratch, k, c, right)?;
+    Ok(end_logic(arena, k, e, dest, b))
 }
 
 // Any other Binary e.
@@ -157,7 +141,7 @@ fn convert_other(
     e: usize,
     y: usize,
     q: usize,
-) -> Converted
+) -> Result<Operand, ConvertError>
     requires converting { Converting tree.now text.now arena.old scratch.old (at c k.old) × ExprAfforded tree.now text.now (at c k.old) e }
     requires kind { IsKind tree.now kind_binary e × TypeAt tree.now y × TypeAt tree.now q }
     requires in_turn { InTurn tree.now text.now scratch.old (at c k.old) }
@@ -167,13 +151,9 @@ fn convert_other(
     let op = detail(tree, e);
     let left = reference(tree, e, WORD_A);
     let right = reference(tree, e, WORD_B);
-    match convert_expr(tree, text, arena, scratch, k, c, left) {
-        Converted::Refused(x) => Converted::Refused(x),
-        Converted::Is(a) => match convert_expr(tree, text, arena, scratch, k, c, right) {
-            Converted::Refused(x) => Converted::Refused(x),
-            Converted::Is(b) => Converted::Is(finish_binary(tree, arena, k, op, a, b, y, q)),
-        },
-    }
+    let a = convert_expr(tree, text, arena, scratch, k, c, left)?;
+    let b = convert_expr(tree, text, arena, scratch, k, c, right)?;
+    Ok(finish_binary(tree, arena, k, op, a, b, y, q))
 }
 
 // The call e, of type y, whose result is used: a Call, or a Cast.
@@ -187,24 +167,16 @@ fn convert_call_value(
     c: Converter,
     e: usize,
     y: usize,
-) -> Converted
+) -> Result<Operand, ConvertError>
     requires converting { Converting tree.now text.now arena.old scratch.old (at c k.old) × ExprAfforded tree.now text.now (at c k.old) e }
     requires kind { IsKind tree.now kind_call e × TypeAt tree.now y }
     requires in_turn { InTurn tree.now text.now scratch.old (at c k.old) }
     ensures converts_as { ConvertsAs (given call_steps y) (at c k.old) e tree.now text.now arena.old scratch.old (converted k.new result) arena.new scratch.new }
     ensures types { ConvertsTyped call_types (at c k.old) e tree.now text.now scratch.old (converted k.new result) scratch.new }
 {
-    let scope = c.scope;
-    let callee = resolve_call(tree, text, scratch, scope, c.turn, e);
-    if let Resolved::Refused(x) = callee {
-        return Converted::Refused(x);
-    }
-    match convert_args(tree, text, arena, scratch, k, c, e) {
-        ConvertedArgs::Refused(x) => Converted::Refused(x),
-        ConvertedArgs::Done(count) => {
-            finish_call(tree, text, arena, scratch, k, c, e, y, callee, count)
-        }
-    }
+    let callee = resolve_call(tree, text, scratch, c.scope, c.turn, e)?;
+    let count = convert_args(tree, text, arena, scratch, k, c, e)?;
+    finish_call(tree, text, arena, scratch, k, c, e, y, callee, count)
 }
 
 // The values of the call e go onto the stack, above what waits there; a type gives none.
@@ -217,7 +189,7 @@ pub(crate) fn convert_args(
     k: &mut [usize],
     c: Converter,
     e: usize,
-) -> ConvertedArgs
+) -> Result<usize, ConvertError>
     requires converting { Converting tree.now text.now arena.old scratch.old (at c k.old) × ArgsAfforded tree.now text.now (at c k.old) (word_of tree.now e Words.C) }
     requires kind { IsKind tree.now kind_call e }
     requires in_turn { InTurn tree.now text.now scratch.old (at c k.old) }
@@ -230,16 +202,12 @@ pub(crate) fn convert_args(
     let mut at = c;
     while cell != END {
         if let Argument::Expr(value) = argument_at(tree, text, cell) {
-            match convert_expr(tree, text, arena, scratch, k, at, value) {
-                Converted::Refused(x) => return ConvertedArgs::Refused(x),
-                Converted::Is(o) => {
-                    let top = at.operands;
-                    push_operand(scratch, n, top, o);
-                    at.operands = top + 1;
-                }
-            }
+            let o = convert_expr(tree, text, arena, scratch, k, at, value)?;
+            let top = at.operands;
+            push_operand(scratch, n, top, o);
+            at.operands = top + 1;
         }
         cell = next_cell(tree, cell);
     }
-    ConvertedArgs::Done(at.operands - first)
+    Ok(at.operands - first)
 }

@@ -23,13 +23,12 @@ ghost use Rattle.statements.specs.Turns.{TurnsStay};
 
 use crate::answers::{AtValue, Converter, error_at};
 use crate::operands::{operand_at, push_operand};
-use expressions::answers::Outcome;
 use expressions::arguments::{Argument, END, argument_at, next_cell};
 use ir::floats::float_entry;
 use ir::lent::{float_bits, float_id, new_var};
 use ir::structs::{Operand, VarId, emit_arg, emit_cast};
 use keys::keys::parameters_of;
-use records::convert_error::ConvertErrorKind;
+use records::convert_error::{ConvertError, ConvertErrorKind};
 use records::numbers::{FLOAT_LONG, FORM_FLOAT, FORM_INT};
 use records::words::{RECORD_BYTES, WORD_A, WORD_C, reference};
 use types::fits::{fits, range_error};
@@ -110,9 +109,7 @@ pub(crate) fn fit_operand(
         Operand::Var(v) => fit_variable(tree, arena, k, v, expected),
         Operand::Float(i) => fit_float(tree, arena, k, i, expected),
         Operand::Int(bits, _, _) => fit_int(tree, o, bits, expected),
-        Operand::Bool(_) => o,
-        Operand::DataAddress(_) => o,
-        Operand::Null => o,
+        Operand::Bool(_) | Operand::DataAddress(_) | Operand::Null => o,
     }
 }
 
@@ -182,8 +179,7 @@ fn fit_args(
     let n = tree.len() / RECORD_BYTES;
     let mut argument = reference(tree, e, WORD_C);
     let mut parameter = parameters_of(tree, text, f);
-    let mut j = 0;
-    while j < count {
+    for j in 0..count {
         let at = first_value(tree, text, argument, parameter);
         let o = operand_at(scratch, n, first + j);
         let expected = parameter_type(tree, text, at.parameter);
@@ -191,7 +187,6 @@ fn fit_args(
         push_operand(scratch, n, first + j, fitted);
         argument = at.rest;
         parameter = next_parameter(tree, text, at.parameter);
-        j += 1;
     }
 }
 
@@ -210,11 +205,9 @@ fn emit_args(
 {
     let first = c.operands;
     let n = tree.len() / RECORD_BYTES;
-    let mut j = 0;
-    while j < count {
+    for j in 0..count {
         let o = operand_at(scratch, n, first + j);
         emit_arg(arena, k, o);
-        j += 1;
     }
 }
 
@@ -248,15 +241,15 @@ pub(crate) fn check_fits(
     expected: usize,
     kind: ConvertErrorKind,
     place: usize,
-) -> Outcome
+) -> Result<(), ConvertError>
     requires { IsExpr tree.now e × IsType tree.now y × IsType tree.now expected × (e < 4294967296) × (place < 4294967296) }
     ensures { (text : List ℕ) (F : Functions) → check_fits (program tree.now text) F (expr_at tree.now text e) y expected kind place ≡ lift (outcome_of result) }
 {
     if fits(tree, e, y, expected) {
-        return Outcome::Done;
+        return Ok(());
     }
     if range_error(tree, e, y, expected) {
-        return Outcome::Refused(error_at(ConvertErrorKind::LiteralOutOfRange, e));
+        return Err(error_at(ConvertErrorKind::LiteralOutOfRange, e));
     }
-    Outcome::Refused(error_at(kind, place))
+    Err(error_at(kind, place))
 }

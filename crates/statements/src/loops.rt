@@ -12,27 +12,27 @@ ghost use Rattle.ir.specs.Counted.{counted};
 ghost use Rattle.ir.specs.Instructions.{operand_of, var_of};
 ghost use Rattle.expressions.specs.Slots.{Ready};
 ghost use Rattle.statements.specs.Converting.{Converting, RoomFor, OperandIn, BehindAfforded, BoundAfforded};
+ghost use Rattle.statements.specs.Labels.{label_number};
 ghost use Rattle.statements.specs.Lent.{at, stated, finished_with, found_variable};
 ghost use Rattle.statements.specs.Meets.{Adds};
 ghost use Rattle.statements.specs.Parts.{if_middle, loop_back, test_bound, place_label};
 ghost use Rattle.statements.specs.Answers.{count_on_steps, of_var, HeadAs, BoundAs, TurnsAs, TurnsAfforded, ForHeadAs, VariableAs, VariableStays, Checks, if_head_steps, while_head_steps, for_variable_steps, bound_steps, for_bounds_steps, for_begin_steps, for_test_steps, for_turns_steps, for_head_steps};
 ghost use Rattle.statements.specs.Turns.{InTurn, head_types, bound_types, bounds_types, for_begin_types, for_test_types, for_types, StatesTyped, FinishesTyped, VariableTyped, ChecksTyped};
 
-use crate::answers::{Converted, Converter, Finished, ForVariable, Stated, error_at};
+use crate::answers::{Converter, ForVariable, error_at};
 use crate::exprs::convert_expr;
 use crate::fits::{check_fits, fit_operand};
 use crate::jumps::{jump, jump_if_not, place_label};
-use crate::numbers::{CONDITION_END, LOOP_CHECK, LOOP_END, LOOP_START, OTHERWISE};
+use crate::numbers::LabelKind;
 use crate::statements::{convert_cond, copy_fitted};
-use expressions::answers::{ExprType, Outcome};
 use expressions::expressions::get_type;
 use expressions::names::{declare_name, find_name};
 use ir::lent::new_var;
 use ir::structs::{Operand, VarId, emit_binary};
-use records::convert_error::ConvertErrorKind;
+use records::convert_error::{ConvertError, ConvertErrorKind};
 use records::numbers::{ADD, BOOL_TYPE, FORM_INT, LT};
 use records::words::{NONE, WORD_A, WORD_B, WORD_C, detail, reference, word};
-use scope::{Declared, Known};
+use scope::Scope;
 use types::form::{form, is_short, is_unsigned};
 
 // Whether the If r has an otherwise.
@@ -45,15 +45,15 @@ pub(crate) fn has_otherwise(tree: &[u8], r: usize) -> bool
 }
 
 // Where the If r goes when its condition does not hold.
-fn if_not_label(tree: &[u8], r: usize) -> u32
+fn if_not_label(tree: &[u8], r: usize) -> LabelKind
     requires record_bytes_in_bounds { r * record_bytes + record_bytes ≤ length tree.now }
     requires r_bound { detail_of tree.now r ≤ 1 }
-    ensures { result ≡ pick (bit 1 (detail_of tree.now r)) (otherwise_label r).kind (condition_end r).kind }
+    ensures { label_number result ≡ pick (bit 1 (detail_of tree.now r)) (otherwise_label r).kind (condition_end r).kind }
 {
     if has_otherwise(tree, r) {
-        return OTHERWISE;
+        return LabelKind::Otherwise;
     }
-    CONDITION_END
+    LabelKind::ConditionEnd
 }
 
 // The If r before its then-block.
@@ -65,7 +65,7 @@ pub(crate) fn if_head(
     k: &mut [usize],
     c: Converter,
     r: usize,
-) -> Finished
+) -> Result<(), ConvertError>
     requires converting { Converting tree.now text.now arena.old scratch.old (at c k.old) × BehindAfforded tree.now text.now (at c k.old) r }
     requires kind { IsKind tree.now kind_if r }
     requires in_turn { InTurn tree.now text.now scratch.old (at c k.old) }
@@ -74,13 +74,9 @@ pub(crate) fn if_head(
 {
     let e = reference(tree, r, WORD_A);
     let label = if_not_label(tree, r);
-    match convert_cond(tree, text, arena, scratch, k, c, e) {
-        Converted::Refused(x) => Finished::Refused(x),
-        Converted::Is(cond) => {
-            jump_if_not(arena, k, cond, label, r);
-            Finished::Done
-        }
-    }
+    let cond = convert_cond(tree, text, arena, scratch, k, c, e)?;
+    jump_if_not(arena, k, cond, label, r);
+    Ok(())
 }
 
 // Between the blocks of the If r.
@@ -88,8 +84,8 @@ pub(crate) fn if_middle(arena: &mut [u8], k: &mut [usize], r: usize)
     requires { RoomFor (counted k.old) arena.old (amount 2 0 2 0 0) × (r < (counted k.old).records) }
     ensures { Adds (if_middle r) (amount 2 0 2 0 0) (counted k.old) arena.old tt (counted k.new) arena.new }
 {
-    jump(arena, k, CONDITION_END, r);
-    place_label(arena, k, OTHERWISE, r);
+    jump(arena, k, LabelKind::ConditionEnd, r);
+    place_label(arena, k, LabelKind::Otherwise, r);
 }
 
 // Behind the last block of the If r.
@@ -97,7 +93,7 @@ pub(crate) fn if_end(arena: &mut [u8], k: &mut [usize], r: usize)
     requires { RoomFor (counted k.old) arena.old (amount 1 0 1 0 0) × (r < (counted k.old).records) }
     ensures { Adds (place_label (condition_end r)) (amount 1 0 1 0 0) (counted k.old) arena.old tt (counted k.new) arena.new }
 {
-    place_label(arena, k, CONDITION_END, r);
+    place_label(arena, k, LabelKind::ConditionEnd, r);
 }
 
 // The While r before its body.
@@ -109,7 +105,7 @@ pub(crate) fn while_head(
     k: &mut [usize],
     c: Converter,
     r: usize,
-) -> Finished
+) -> Result<(), ConvertError>
     requires converting { Converting tree.now text.now arena.old scratch.old (at c k.old) × BehindAfforded tree.now text.now (at c k.old) r }
     requires kind { IsKind tree.now kind_while r }
     requires in_turn { InTurn tree.now text.now scratch.old (at c k.old) }
@@ -117,14 +113,10 @@ pub(crate) fn while_head(
     ensures types { FinishesTyped head_types (at c k.old) r tree.now text.now scratch.old (finished_with k.new result) scratch.new }
 {
     let e = reference(tree, r, WORD_A);
-    place_label(arena, k, LOOP_START, r);
-    match convert_cond(tree, text, arena, scratch, k, c, e) {
-        Converted::Refused(x) => Finished::Refused(x),
-        Converted::Is(cond) => {
-            jump_if_not(arena, k, cond, LOOP_END, r);
-            Finished::Done
-        }
-    }
+    place_label(arena, k, LabelKind::LoopStart, r);
+    let cond = convert_cond(tree, text, arena, scratch, k, c, e)?;
+    jump_if_not(arena, k, cond, LabelKind::LoopEnd, r);
+    Ok(())
 }
 
 // Behind the body of the While or For r.
@@ -132,8 +124,8 @@ pub(crate) fn loop_end(arena: &mut [u8], k: &mut [usize], r: usize)
     requires { RoomFor (counted k.old) arena.old (amount 2 0 2 0 0) × (r < (counted k.old).records) }
     ensures { Adds (loop_back r) (amount 2 0 2 0 0) (counted k.old) arena.old tt (counted k.new) arena.new }
 {
-    jump(arena, k, LOOP_START, r);
-    place_label(arena, k, LOOP_END, r);
+    jump(arena, k, LabelKind::LoopStart, r);
+    place_label(arena, k, LabelKind::LoopEnd, r);
 }
 
 // The For r that declares its variable, of record v, in the scope of its body.
@@ -146,19 +138,21 @@ fn for_declared(
     c: Converter,
     r: usize,
     v: usize,
-) -> ForVariable
+) -> Result<ForVariable, ConvertError>
     requires converting { Converting tree.now text.now arena.old scratch.old (at c k.old) × BehindAfforded tree.now text.now (at c k.old) r }
     requires kind { IsKind tree.now kind_for r × (v ≡ word_of tree.now r Words.A) × TypeAt tree.now (word_of tree.now v Words.C) }
     requires in_turn { InTurn tree.now text.now scratch.old (at c k.old) }
     ensures variable_as { VariableAs for_variable_steps (at c k.old) r tree.now text.now arena.old scratch.old (found_variable k.new result) arena.new scratch.new }
     ensures types { VariableTyped (at c k.old) tree.now text.now scratch.old (found_variable k.new result) scratch.new }
 {
-    let scope = c.scope;
     let x = new_var(arena, k, word(tree, v, WORD_C));
-    match declare_name(tree, text, scratch, scope, v, x, false) {
-        Declared::Taken => ForVariable::Refused(error_at(ConvertErrorKind::AlreadyDeclared, r)),
-        Declared::Done(next) => ForVariable::Is(x, next),
-    }
+    let Some(next) = declare_name(tree, text, scratch, c.scope, v, x, false) else {
+        return Err(error_at(ConvertErrorKind::AlreadyDeclared, r));
+    };
+    Ok(ForVariable {
+        var: x,
+        scope: next,
+    })
 }
 
 // The For r that changes a variable of the blocks around it, named in record v.
@@ -169,21 +163,21 @@ fn for_known(
     c: Converter,
     r: usize,
     v: usize,
-) -> ForVariable
+) -> Result<ForVariable, ConvertError>
     requires ready { Ready tree.now text.now scratch.now c.scope }
     requires kind { IsKind tree.now kind_for r × (v ≡ word_of tree.now r Words.A) × (word_of tree.now v Words.C ≡ Words.none) }
     ensures { VariableStays for_variable_steps c r tree.now text.now scratch.now result }
 {
-    let scope = c.scope;
-    match find_name(tree, text, scratch, scope, v) {
-        Known::Unknown => ForVariable::Refused(error_at(ConvertErrorKind::UnknownVariable, r)),
-        Known::Is(x, constant) => {
-            if constant {
-                return ForVariable::Refused(error_at(ConvertErrorKind::AssignToConstant, r));
-            }
-            ForVariable::Is(x, scope)
-        }
+    let Some(known) = find_name(tree, text, scratch, c.scope, v) else {
+        return Err(error_at(ConvertErrorKind::UnknownVariable, r));
+    };
+    if known.constant {
+        return Err(error_at(ConvertErrorKind::AssignToConstant, r));
     }
+    Ok(ForVariable {
+        var: known.var,
+        scope: c.scope,
+    })
 }
 
 // The variable of the For r.
@@ -195,7 +189,7 @@ fn for_variable(
     k: &mut [usize],
     c: Converter,
     r: usize,
-) -> ForVariable
+) -> Result<ForVariable, ConvertError>
     requires converting { Converting tree.now text.now arena.old scratch.old (at c k.old) × BehindAfforded tree.now text.now (at c k.old) r }
     requires kind { IsKind tree.now kind_for r }
     requires in_turn { InTurn tree.now text.now scratch.old (at c k.old) }
@@ -217,17 +211,14 @@ fn check_bound(
     c: Converter,
     e: usize,
     y: usize,
-) -> Outcome
+) -> Result<(), ConvertError>
     requires ready { Ready tree.now text.now scratch.old c.scope × IsExpr tree.now e × TypeAt tree.now y }
     requires by_index { (k : List ℕ) → InTurn tree.now text.now scratch.old (at c k) }
     ensures by_index_2 { (k : List ℕ) → Checks tree.now (bound_steps tree.now text.now scratch.old (at c k) e y) scratch.old result scratch.new }
     ensures types { (k : List ℕ) → ChecksTyped bound_types (at c k) e tree.now text.now scratch.old result scratch.new }
 {
-    let scope = c.scope;
-    match get_type(tree, text, scratch, scope, c.turn, e) {
-        ExprType::Refused(x) => Outcome::Refused(x),
-        ExprType::Is(q) => check_fits(tree, e, q, y, ConvertErrorKind::NotInteger, e),
-    }
+    let q = get_type(tree, text, scratch, c.scope, c.turn, e)?;
+    check_fits(tree, e, q, y, ConvertErrorKind::NotInteger, e)
 }
 
 // Both bounds of the For r are looked at before either is converted.
@@ -238,7 +229,7 @@ fn for_bounds(
     c: Converter,
     r: usize,
     y: usize,
-) -> Outcome
+) -> Result<(), ConvertError>
     requires ready { Ready tree.now text.now scratch.old c.scope × IsKind tree.now kind_for r × TypeAt tree.now y }
     requires by_index { (k : List ℕ) → InTurn tree.now text.now scratch.old (at c k) }
     ensures by_index_2 { (k : List ℕ) → Checks tree.now (for_bounds_steps tree.now text.now scratch.old (at c k) r y) scratch.old result scratch.new }
@@ -246,10 +237,8 @@ fn for_bounds(
 {
     let from = reference(tree, r, WORD_B);
     let until = reference(tree, r, WORD_C);
-    match check_bound(tree, text, scratch, c, from, y) {
-        Outcome::Refused(x) => Outcome::Refused(x),
-        Outcome::Done => check_bound(tree, text, scratch, c, until, y),
-    }
+    check_bound(tree, text, scratch, c, from, y)?;
+    check_bound(tree, text, scratch, c, until, y)
 }
 
 // Where the For r counts on: at its start, which the first turn passes by, and then the check.
@@ -259,10 +248,10 @@ fn count_on(tree: &[u8], arena: &mut [u8], k: &mut [usize], r: usize, x: VarId)
 {
     let y = x.1 as usize;
     let one = Operand::Int(1, is_short(tree, y), is_unsigned(tree, y));
-    jump(arena, k, LOOP_CHECK, r);
-    place_label(arena, k, LOOP_START, r);
+    jump(arena, k, LabelKind::LoopCheck, r);
+    place_label(arena, k, LabelKind::LoopStart, r);
     emit_binary(arena, k, x, ADD, Operand::Var(x), one);
-    place_label(arena, k, LOOP_CHECK, r);
+    place_label(arena, k, LabelKind::LoopCheck, r);
 }
 
 // The For r up to its check: its variable gets the first bound.
@@ -275,7 +264,7 @@ fn for_begin(
     c: Converter,
     r: usize,
     x: VarId,
-) -> Finished
+) -> Result<(), ConvertError>
     requires converting { Converting tree.now text.now arena.old scratch.old (at c k.old) × BoundAfforded tree.now text.now (at c k.old) r Words.B }
     requires kind { IsKind tree.now kind_for r × TypeAt tree.now x.1 }
     requires in_turn { InTurn tree.now text.now scratch.old (at c k.old) }
@@ -283,14 +272,10 @@ fn for_begin(
     ensures types { FinishesTyped for_begin_types (at c k.old) r tree.now text.now scratch.old (finished_with k.new result) scratch.new }
 {
     let from = reference(tree, r, WORD_B);
-    match convert_expr(tree, text, arena, scratch, k, c, from) {
-        Converted::Refused(e) => Finished::Refused(e),
-        Converted::Is(a) => {
-            copy_fitted(tree, arena, k, x, a);
-            count_on(tree, arena, k, r, x);
-            Finished::Done
-        }
-    }
+    let a = convert_expr(tree, text, arena, scratch, k, c, from)?;
+    copy_fitted(tree, arena, k, x, a);
+    count_on(tree, arena, k, r, x);
+    Ok(())
 }
 
 // Whether the variable is below the bound, or the For r ends.
@@ -301,7 +286,7 @@ fn test_bound(tree: &[u8], arena: &mut [u8], k: &mut [usize], r: usize, x: VarId
     let bound = fit_operand(tree, arena, k, until, x.1 as usize);
     let cond = new_var(arena, k, BOOL_TYPE as u32);
     emit_binary(arena, k, cond, LT, Operand::Var(x), bound);
-    jump_if_not(arena, k, Operand::Var(cond), LOOP_END, r);
+    jump_if_not(arena, k, Operand::Var(cond), LabelKind::LoopEnd, r);
 }
 
 // The check of the For r: its second bound is computed anew at each turn.
@@ -314,7 +299,7 @@ fn for_test(
     c: Converter,
     r: usize,
     x: VarId,
-) -> Finished
+) -> Result<(), ConvertError>
     requires converting { Converting tree.now text.now arena.old scratch.old (at c k.old) × BoundAfforded tree.now text.now (at c k.old) r Words.C }
     requires kind { IsKind tree.now kind_for r × TypeAt tree.now x.1 }
     requires in_turn { InTurn tree.now text.now scratch.old (at c k.old) }
@@ -322,13 +307,9 @@ fn for_test(
     ensures types { FinishesTyped for_test_types (at c k.old) r tree.now text.now scratch.old (finished_with k.new result) scratch.new }
 {
     let until = reference(tree, r, WORD_C);
-    match convert_expr(tree, text, arena, scratch, k, c, until) {
-        Converted::Refused(e) => Finished::Refused(e),
-        Converted::Is(b) => {
-            test_bound(tree, arena, k, r, x, b);
-            Finished::Done
-        }
-    }
+    let b = convert_expr(tree, text, arena, scratch, k, c, until)?;
+    test_bound(tree, arena, k, r, x, b);
+    Ok(())
 }
 
 // The For r from its variable on, up to its body.
@@ -341,7 +322,7 @@ fn for_turns(
     c: Converter,
     r: usize,
     x: VarId,
-) -> Finished
+) -> Result<(), ConvertError>
     requires converting { Converting tree.now text.now arena.old scratch.old (at c k.old) × TurnsAfforded tree.now text.now (at c k.old) r }
     requires kind { IsKind tree.now kind_for r × TypeAt tree.now x.1 }
     requires in_turn { InTurn tree.now text.now scratch.old (at c k.old) }
@@ -350,15 +331,11 @@ fn for_turns(
 {
     let y = x.1 as usize;
     if form(tree, y) != FORM_INT {
-        return Finished::Refused(error_at(ConvertErrorKind::NotInteger, r));
+        return Err(error_at(ConvertErrorKind::NotInteger, r));
     }
-    match for_bounds(tree, text, scratch, c, r, y) {
-        Outcome::Refused(e) => Finished::Refused(e),
-        Outcome::Done => match for_begin(tree, text, arena, scratch, k, c, r, x) {
-            Finished::Refused(e) => Finished::Refused(e),
-            Finished::Done => for_test(tree, text, arena, scratch, k, c, r, x),
-        },
-    }
+    for_bounds(tree, text, scratch, c, r, y)?;
+    for_begin(tree, text, arena, scratch, k, c, r, x)?;
+    for_test(tree, text, arena, scratch, k, c, r, x)
 }
 
 // The For r before its body, with the scope of the body: a variable that it declares is unknown in its bounds.
@@ -370,18 +347,14 @@ pub(crate) fn for_head(
     k: &mut [usize],
     c: Converter,
     r: usize,
-) -> Stated
+) -> Result<Scope, ConvertError>
     requires converting { Converting tree.now text.now arena.old scratch.old (at c k.old) × BehindAfforded tree.now text.now (at c k.old) r }
     requires kind { IsKind tree.now kind_for r }
     requires in_turn { InTurn tree.now text.now scratch.old (at c k.old) }
     ensures for_head_as { ForHeadAs for_head_steps (at c k.old) r tree.now text.now arena.old scratch.old (stated k.new result) arena.new scratch.new }
     ensures types { StatesTyped for_types (at c k.old) r tree.now text.now scratch.old (stated k.new result) scratch.new }
 {
-    match for_variable(tree, text, arena, scratch, k, c, r) {
-        ForVariable::Refused(e) => Stated::Refused(e),
-        ForVariable::Is(x, inner) => match for_turns(tree, text, arena, scratch, k, c, r, x) {
-            Finished::Refused(e) => Stated::Refused(e),
-            Finished::Done => Stated::Done(inner),
-        },
-    }
+    let found = for_variable(tree, text, arena, scratch, k, c, r)?;
+    for_turns(tree, text, arena, scratch, k, c, r, found.var)?;
+    Ok(found.scope)
 }

@@ -1,19 +1,16 @@
 // Document 01's numbers for labels, and its tags as words of the stack.
 
 // Kinds of labels.
-pub(crate) const LOOP_START: u32 = 1;
-
-pub(crate) const LOOP_END: u32 = 2;
-
-pub(crate) const LOOP_CHECK: u32 = 3;
-
-pub(crate) const OTHERWISE: u32 = 4;
-
-pub(crate) const CONDITION_END: u32 = 5;
-
-pub(crate) const LOGIC_RHS: u32 = 6;
-
-pub(crate) const LOGIC_END: u32 = 7;
+#[derive(Clone, Copy, Debug, PartialEq, Eq)]
+pub(crate) enum LabelKind {
+    LoopStart = 1,
+    LoopEnd,
+    LoopCheck,
+    Otherwise,
+    ConditionEnd,
+    LogicRhs,
+    LogicEnd,
+}
 
 // Tags of operands as words; an Int's is 1 more where it is short, 2 more where it is unsigned.
 pub(crate) const TAG_VARIABLE: u32 = ir::structs::TAG_VARIABLE as u32;

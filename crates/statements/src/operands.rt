@@ -22,7 +22,7 @@ ghost use Rattle.statements.specs.Converting.{Converting, RoomFor, expr_amount};
 ghost use Rattle.statements.specs.Lent.{at, converted, fitted};
 ghost use Rattle.statements.specs.Answers.{LeafAdds, LeafConverts, LeafStays, LeafAnywhere};
 
-use crate::answers::{Converted, Converter, error_at};
+use crate::answers::{Converter, error_at};
 use crate::numbers::{
     TAG_BOOL, TAG_FLOAT, TAG_INT, TAG_NULL, TAG_STRING, TAG_UNSIGNED, TAG_VARIABLE,
 };
@@ -30,14 +30,13 @@ use expressions::names::find_name;
 use ir::floats::float_entry;
 use ir::lent::{float_id, string_id};
 use ir::structs::{Operand, VarId};
-use records::convert_error::ConvertErrorKind;
+use records::convert_error::{ConvertError, ConvertErrorKind};
 use records::layout::{OPERAND_BYTES, OPERANDS};
 use records::numbers::{KIND_BOOL, KIND_FLOAT, KIND_INT, KIND_NAME, KIND_NULL, KIND_STR};
 use records::words::{
     FOURTH_WORD, Four, SECOND_WORD, THIRD_WORD, WORD_A, WORD_B, detail, high, kind, load, low,
     mark, put_four, reference, word,
 };
-use scope::Known;
 use texts::original;
 use types::form::two_words;
 use types::size::{Bytes, size};
@@ -142,34 +141,37 @@ fn string_operand(
     requires affords { Affords (counted k.old) (amount 0 0 0 1 0) × IsKind tree.now kind_str e }
     ensures { LeafAdds tree.now text.now e (amount 0 0 0 1 0) (counted k.old) arena.old (fitted k.new result) arena.new }
 {
-    let scope = c.scope;
-    let o = original(scratch, scope.records, e);
+    let o = original(scratch, c.scope.records, e);
     let offset = word(tree, e, WORD_A);
     let len = word(tree, e, WORD_B);
     Operand::DataAddress(string_id(arena, k, o, offset, len))
 }
 
 // The variable of the Name e.
-fn name_operand(tree: &[u8], text: &[u8], scratch: &[u8], c: Converter, e: usize) -> Converted
+fn name_operand(
+    tree: &[u8],
+    text: &[u8],
+    scratch: &[u8],
+    c: Converter,
+    e: usize,
+) -> Result<Operand, ConvertError>
     requires { Ready tree.now text.now scratch.now c.scope × IsKind tree.now kind_name e }
     ensures { LeafStays c e tree.now text.now scratch.now result }
 {
-    let scope = c.scope;
-    match find_name(tree, text, scratch, scope, e) {
-        Known::Is(v, _) => Converted::Is(Operand::Var(v)),
-        Known::Unknown => Converted::Refused(error_at(ConvertErrorKind::UnknownVariable, e)),
-    }
+    let Some(known) = find_name(tree, text, scratch, c.scope, e) else {
+        return Err(error_at(ConvertErrorKind::UnknownVariable, e));
+    };
+    Ok(Operand::Var(known.var))
 }
 
 // The operand is tagged signed, though a SizeOf's type is unsigned.
-fn size_operand(tree: &[u8], text: &[u8], e: usize) -> Converted
+fn size_operand(tree: &[u8], text: &[u8], e: usize) -> Result<Operand, ConvertError>
     requires { Good tree.now text.now × IsKind tree.now kind_size_of e }
     ensures { LeafAnywhere e tree.now text.now result }
 {
     match size(tree, reference(tree, e, WORD_A)) {
-        Bytes::Exactly(n) => Converted::Is(Operand::Int(n, false, false)),
-        Bytes::Over => Converted::Refused(error_at(ConvertErrorKind::WouldPanic, e)),
-        Bytes::Nothing => Converted::Refused(error_at(ConvertErrorKind::WouldPanic, e)),
+        Bytes::Exactly(n) => Ok(Operand::Int(n, false, false)),
+        Bytes::Over | Bytes::Nothing => Err(error_at(ConvertErrorKind::WouldPanic, e)),
     }
 }
 
@@ -182,7 +184,7 @@ pub(crate) fn operand(
     k: &mut [usize],
     c: Converter,
     e: usize,
-) -> Converted
+) -> Result<Operand, ConvertError>
     requires converting { Converting tree.now text.now arena.old scratch.now (at c k.old) }
     requires affords { Affords (counted k.old) (expr_amount 0) }
     requires expr { IsExpr tree.now e × (kind_of tree.now e ≤ kind_size_of) }
@@ -190,22 +192,22 @@ pub(crate) fn operand(
 {
     let leaf = kind(tree, e);
     if leaf == KIND_INT {
-        return Converted::Is(int_operand(tree, e));
+        return Ok(int_operand(tree, e));
     }
     if leaf == KIND_FLOAT {
-        return Converted::Is(float_operand(tree, text, arena, k, e));
+        return Ok(float_operand(tree, text, arena, k, e));
     }
     if leaf == KIND_STR {
-        return Converted::Is(string_operand(tree, text, arena, scratch, k, c, e));
+        return Ok(string_operand(tree, text, arena, scratch, k, c, e));
     }
     if leaf == KIND_BOOL {
-        return Converted::Is(Operand::Bool(detail(tree, e) == 1));
+        return Ok(Operand::Bool(detail(tree, e) == 1));
     }
     if leaf == KIND_NAME {
         return name_operand(tree, text, scratch, c, e);
     }
     if leaf == KIND_NULL {
-        return Converted::Is(Operand::Null);
+        return Ok(Operand::Null);
     }
     size_operand(tree, text, e)
 }

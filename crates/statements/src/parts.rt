@@ -16,16 +16,16 @@ ghost use Rattle.statements.specs.Parts.{finish_unary, begin_logic, join_and, jo
 ghost use Rattle.statements.specs.Answers.{FitAdds, BinaryFinishes, join_steps, OperandTyped, CastsAs, CallsAs, CallEndsAs};
 ghost use Rattle.statements.specs.Turns.{InTurn, TurnsStay, CommonTyped};
 
-use crate::answers::{Converted, Converter, error_at};
+use crate::answers::{Converter, error_at};
 use crate::fits::{fit_operand, pass_args};
-use crate::jumps::{jump, jump_if_not, place_label};
-use crate::numbers::{LOGIC_END, LOGIC_RHS};
+use crate::jumps::{jump, jump_if_not, label, place_label};
+use crate::numbers::LabelKind;
 use crate::operands::operand_at;
-use expressions::answers::{Common, ExprType, Resolved};
+use expressions::answers::Callee;
 use expressions::expressions::common_type;
-use ir::lent::{label_id, new_var};
+use ir::lent::new_var;
 use ir::structs::{Operand, VarId, emit_binary, emit_call, emit_cast, emit_copy, emit_unary};
-use records::convert_error::ConvertErrorKind;
+use records::convert_error::{ConvertError, ConvertErrorKind};
 use records::numbers::AND;
 use records::words::{RECORD_BYTES, detail};
 
@@ -51,8 +51,8 @@ pub(crate) fn begin_logic(arena: &mut [u8], k: &mut [usize], e: usize, y: usize)
     ensures typed { result.1 ≡ y }
 {
     let dest = new_var(arena, k, y as u32);
-    label_id(arena, k, LOGIC_RHS, e as u32);
-    label_id(arena, k, LOGIC_END, e as u32);
+    label(arena, k, LabelKind::LogicRhs, e);
+    label(arena, k, LabelKind::LogicEnd, e);
     dest
 }
 
@@ -62,7 +62,7 @@ pub(crate) fn join_and(arena: &mut [u8], k: &mut [usize], e: usize, dest: VarId,
     ensures { Adds (join_and e (var_of dest) (operand_of left)) (amount 2 0 1 0 0) (counted k.old) arena.old tt (counted k.new) arena.new }
 {
     emit_copy(arena, k, dest, left);
-    jump_if_not(arena, k, Operand::Var(dest), LOGIC_END, e);
+    jump_if_not(arena, k, Operand::Var(dest), LabelKind::LogicEnd, e);
 }
 
 // Between the sides of Or.
@@ -71,9 +71,9 @@ pub(crate) fn join_or(arena: &mut [u8], k: &mut [usize], e: usize, dest: VarId, 
     ensures { Adds (join_or e (var_of dest) (operand_of left)) (amount 4 0 3 0 0) (counted k.old) arena.old tt (counted k.new) arena.new }
 {
     emit_copy(arena, k, dest, left);
-    jump_if_not(arena, k, Operand::Var(dest), LOGIC_RHS, e);
-    jump(arena, k, LOGIC_END, e);
-    place_label(arena, k, LOGIC_RHS, e);
+    jump_if_not(arena, k, Operand::Var(dest), LabelKind::LogicRhs, e);
+    jump(arena, k, LabelKind::LogicEnd, e);
+    place_label(arena, k, LabelKind::LogicRhs, e);
 }
 
 // What stands between the sides of the And or Or e: the left one is copied, and tested.
@@ -105,7 +105,7 @@ pub(crate) fn end_logic(
     ensures { (tree : List ℕ) → TypeAt tree dest.1 → FitAdds tree (end_logic e (var_of dest) (operand_of right)) (amount 2 0 1 0 0) (counted k.old) arena.old (fitted k.new result) arena.new }
 {
     emit_copy(arena, k, dest, right);
-    place_label(arena, k, LOGIC_END, e);
+    place_label(arena, k, LabelKind::LogicEnd, e);
     Operand::Var(dest)
 }
 
@@ -117,19 +117,14 @@ pub(crate) fn operand_type(
     c: Converter,
     e: usize,
     y: usize,
-) -> ExprType
+) -> Result<usize, ConvertError>
     requires ready { Ready tree.now text.now scratch.old c.scope }
     requires kind { IsKind tree.now kind_binary e × TypeAt tree.now y }
     requires by_index { (k : List ℕ) → InTurn tree.now text.now scratch.old (at c k) }
     ensures by_index_2 { (k : List ℕ) → OperandTyped tree.now text.now scratch.old (at c k) e y result scratch.new }
     ensures types { (k : List ℕ) → CommonTyped (at c k) e tree.now text.now scratch.old result scratch.new }
 {
-    let scope = c.scope;
-    match common_type(tree, text, scratch, scope, c.turn, e) {
-        Common::Refused(x) => ExprType::Refused(x),
-        Common::Is(q) => ExprType::Is(q),
-        Common::Neither => ExprType::Is(y),
-    }
+    Ok(common_type(tree, text, scratch, c.scope, c.turn, e)?.unwrap_or(y))
 }
 
 // Any Binary but And and Or, behind its sides: both are fitted to q, then the operator goes into a new variable of type y.
@@ -166,18 +161,18 @@ pub(crate) fn cast_first(
     e: usize,
     dest: VarId,
     count: usize,
-) -> Converted
+) -> Result<Operand, ConvertError>
     requires converting { Converting tree.now text.now arena.old scratch.now (at c k.old) × Afforded tree.now (at c k.old) (amount 1 0 0 0 0) count 0 }
     requires e_bound { (e < 4294967296) × TypeAt tree.now dest.1 }
     ensures { CastsAs e dest count (at c k.old) tree.now text.now arena.old scratch.now (converted k.new result) arena.new }
 {
     if count == 0 {
-        return Converted::Refused(error_at(ConvertErrorKind::WouldPanic, e));
+        return Err(error_at(ConvertErrorKind::WouldPanic, e));
     }
     let n = tree.len() / RECORD_BYTES;
     let first = operand_at(scratch, n, c.operands);
     emit_cast(arena, k, dest, first);
-    Converted::Is(Operand::Var(dest))
+    Ok(Operand::Var(dest))
 }
 
 // The call e of f, whose result goes to dest.
@@ -192,7 +187,7 @@ pub(crate) fn call_function(
     f: usize,
     dest: VarId,
     count: usize,
-) -> Converted
+) -> Result<Operand, ConvertError>
     requires converting { Converting tree.now text.now arena.old scratch.old (at c k.old) × Afforded tree.now (at c k.old) (amount (2 * count + 1) count 0 0 count) count 0 }
     requires function_at { FunctionAt tree.now f × IsKind tree.now kind_call e × TypeAt tree.now dest.1 × StackIn tree.now scratch.old c.operands count }
     ensures calls_as { CallsAs e f dest count (at c k.old) tree.now text.now arena.old scratch.old (converted k.new result) arena.new scratch.new }
@@ -200,7 +195,7 @@ pub(crate) fn call_function(
 {
     pass_args(tree, text, arena, scratch, k, c, e, f, count);
     emit_call(arena, k, dest, f as u32);
-    Converted::Is(Operand::Var(dest))
+    Ok(Operand::Var(dest))
 }
 
 // The call e, of type y, behind its values, of which `count` wait on the stack.
@@ -213,19 +208,18 @@ pub(crate) fn finish_call(
     c: Converter,
     e: usize,
     y: usize,
-    callee: Resolved,
+    callee: Callee,
     count: usize,
-) -> Converted
+) -> Result<Operand, ConvertError>
     requires converting { Converting tree.now text.now arena.old scratch.old (at c k.old) × Afforded tree.now (at c k.old) (amount (2 * count + 1) (count + 1) 0 0 count) count 0 }
-    requires kind { IsKind tree.now kind_call e × TypeAt tree.now y × IsCallee tree.now callee × StackIn tree.now scratch.old c.operands count }
-    ensures call_ends_as { CallEndsAs e y callee count (at c k.old) tree.now text.now arena.old scratch.old (converted k.new result) arena.new scratch.new }
+    requires kind { IsKind tree.now kind_call e × TypeAt tree.now y × IsCallee tree.now (Ok callee) × StackIn tree.now scratch.old c.operands count }
+    ensures call_ends_as { CallEndsAs e y (Ok callee) count (at c k.old) tree.now text.now arena.old scratch.old (converted k.new result) arena.new scratch.new }
     ensures turns { TurnsStay tree.now scratch.old scratch.new }
 {
     let dest = new_var(arena, k, y as u32);
     match callee {
-        Resolved::Refused(x) => Converted::Refused(x),
-        Resolved::Cast(_) => cast_first(tree, text, arena, scratch, k, c, e, dest, count),
-        Resolved::Function(f) => {
+        Callee::Cast(_) => cast_first(tree, text, arena, scratch, k, c, e, dest, count),
+        Callee::Function(f) => {
             call_function(tree, text, arena, scratch, k, c, e, f, dest, count)
         }
     }

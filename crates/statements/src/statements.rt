@@ -15,27 +15,27 @@ ghost use Rattle.statements.specs.Converting.{Converting, RoomFor, OperandIn, Af
 ghost use Rattle.statements.specs.Lent.{at, converted, stated, finished_with};
 ghost use Rattle.statements.specs.Meets.{Adds};
 ghost use Rattle.statements.specs.Parts.{copy_fitted, zero_float};
-ghost use Rattle.statements.specs.Answers.{ZeroMeets, givens, given, ConvertsAs, StatesAs, CallOnlyAs, DeclaresAs, cond_steps, declare_steps, init_steps, init_new_steps, assign_steps, assign_to_steps, return_steps, return_as_steps, call_statement_steps, call_only_steps, break_steps, continue_steps, declare_init_steps};
+ghost use Rattle.statements.specs.Answers.{ZeroMeets, givens, given, ConvertsAs, StatesAs, CallOnlyAs, DeclaresAs, cond_steps, declare_steps, init_steps, init_new_steps, assign_steps, assign_to_steps, return_steps, return_as_steps, call_statement_steps, call_only_steps, break_steps, continue_steps, loop_jump_steps, declare_init_steps};
 ghost use Rattle.statements.specs.Turns.{InTurn, no_types, call_only_types, value_types, assign_types, init_types, head_types, return_as_types, own_types, ConvertsTyped, StatesTyped};
 
-use crate::answers::{Converted, ConvertedArgs, Converter, Finished, Stated, error_at};
+use crate::answers::{Converter, error_at};
 use crate::exprs::{convert_args, convert_expr};
 use crate::fits::{check_fits, fit_operand, pass_args};
 use crate::jumps::jump;
-use crate::numbers::{LOOP_END, LOOP_START};
-use expressions::answers::{ExprType, Outcome, Resolved};
+use crate::numbers::LabelKind;
+use expressions::answers::Callee;
 use expressions::expressions::{get_type, resolve_call};
 use expressions::names::{declare_name, find_name};
 use ir::floats::float_entry;
 use ir::lent::{float_id, new_var};
 use ir::structs::{Operand, VarId, emit_call_only, emit_copy, emit_return, emit_zero};
-use records::convert_error::ConvertErrorKind;
+use records::convert_error::{ConvertError, ConvertErrorKind};
 use records::numbers::{
     ADDRESS_OF_NULL, BOOL_TYPE, FORM_ADDRESS, FORM_ARRAY, FORM_CUSTOM, FORM_FLOAT, FORM_INT,
     KIND_CALL, NULL_TYPE,
 };
 use records::words::{NONE, WORD_A, WORD_C, WORD_D, detail, kind, reference, word};
-use scope::{Declared, InLoop, Known};
+use scope::{Known, Scope};
 use types::form::{form, is_short, is_unsigned};
 
 // The operand of the condition e, which must be a Bool.
@@ -47,23 +47,18 @@ pub(crate) fn convert_cond(
     k: &mut [usize],
     c: Converter,
     e: usize,
-) -> Converted
+) -> Result<Operand, ConvertError>
     requires converting { Converting tree.now text.now arena.old scratch.old (at c k.old) × ExprAfforded tree.now text.now (at c k.old) e }
     requires expr { IsExpr tree.now e }
     requires in_turn { InTurn tree.now text.now scratch.old (at c k.old) }
     ensures converts_as { ConvertsAs cond_steps (at c k.old) e tree.now text.now arena.old scratch.old (converted k.new result) arena.new scratch.new }
     ensures types { ConvertsTyped value_types (at c k.old) e tree.now text.now scratch.old (converted k.new result) scratch.new }
 {
-    let scope = c.scope;
-    match get_type(tree, text, scratch, scope, c.turn, e) {
-        ExprType::Refused(x) => Converted::Refused(x),
-        ExprType::Is(y) => {
-            if y == BOOL_TYPE {
-                return convert_expr(tree, text, arena, scratch, k, c, e);
-            }
-            Converted::Refused(error_at(ConvertErrorKind::NotBool, e))
-        }
+    let y = get_type(tree, text, scratch, c.scope, c.turn, e)?;
+    if y == BOOL_TYPE {
+        return convert_expr(tree, text, arena, scratch, k, c, e);
     }
+    Err(error_at(ConvertErrorKind::NotBool, e))
 }
 
 fn zero_float(arena: &mut [u8], k: &mut [usize], v: VarId, short: bool)
@@ -85,7 +80,13 @@ fn zero_operand(f: u8) -> Operand
 }
 
 // The zero value that the Declare r writes; of a Custom the Rust would panic.
-fn zero_value(tree: &[u8], arena: &mut [u8], k: &mut [usize], r: usize, v: VarId) -> Finished
+fn zero_value(
+    tree: &[u8],
+    arena: &mut [u8],
+    k: &mut [usize],
+    r: usize,
+    v: VarId,
+) -> Result<(), ConvertError>
     requires { RoomFor (counted k.old) arena.old (amount 1 0 0 0 1) × IsType tree.now v.1 × (r < 4294967296) }
     ensures { ZeroMeets tree.now r v (counted k.old) arena.old (finished_with k.new result) arena.new }
 {
@@ -95,21 +96,21 @@ fn zero_value(tree: &[u8], arena: &mut [u8], k: &mut [usize], r: usize, v: VarId
     if f == FORM_INT {
         let zero = Operand::Int(0, short, is_unsigned(tree, y));
         emit_copy(arena, k, v, zero);
-        return Finished::Done;
+        return Ok(());
     }
     if f == FORM_FLOAT {
         zero_float(arena, k, v, short);
-        return Finished::Done;
+        return Ok(());
     }
     if f == FORM_ARRAY {
         emit_zero(arena, k, v);
-        return Finished::Done;
+        return Ok(());
     }
     if f == FORM_CUSTOM {
-        return Finished::Refused(error_at(ConvertErrorKind::WouldPanic, r));
+        return Err(error_at(ConvertErrorKind::WouldPanic, r));
     }
     emit_copy(arena, k, v, zero_operand(f));
-    Finished::Done
+    Ok(())
 }
 
 // The Declare r: the variable takes its number before its name is looked at.
@@ -121,22 +122,19 @@ pub(crate) fn convert_declare(
     k: &mut [usize],
     c: Converter,
     r: usize,
-) -> Stated
+) -> Result<Scope, ConvertError>
     requires converting { Converting tree.now text.now arena.old scratch.old (at c k.old) × BehindAfforded tree.now text.now (at c k.old) r }
     requires kind { IsKind tree.now kind_declare r }
     requires in_turn { InTurn tree.now text.now scratch.old (at c k.old) }
     ensures states_as { StatesAs declare_steps (at c k.old) r tree.now text.now arena.old scratch.old (stated k.new result) arena.new scratch.new }
     ensures types { StatesTyped no_types (at c k.old) r tree.now text.now scratch.old (stated k.new result) scratch.new }
 {
-    let scope = c.scope;
     let v = new_var(arena, k, word(tree, r, WORD_C));
-    match declare_name(tree, text, scratch, scope, r, v, false) {
-        Declared::Taken => Stated::Refused(error_at(ConvertErrorKind::AlreadyDeclared, r)),
-        Declared::Done(next) => match zero_value(tree, arena, k, r, v) {
-            Finished::Refused(x) => Stated::Refused(x),
-            Finished::Done => Stated::Done(next),
-        },
-    }
+    let Some(next) = declare_name(tree, text, scratch, c.scope, r, v, false) else {
+        return Err(error_at(ConvertErrorKind::AlreadyDeclared, r));
+    };
+    zero_value(tree, arena, k, r, v)?;
+    Ok(next)
 }
 
 // The operand, fitted to the variable's type, is copied into it.
@@ -158,31 +156,20 @@ fn assign_to(
     c: Converter,
     r: usize,
     v: VarId,
-) -> Stated
+) -> Result<Scope, ConvertError>
     requires converting { Converting tree.now text.now arena.old scratch.old (at c k.old) × BehindAfforded tree.now text.now (at c k.old) r }
     requires kind { IsKind tree.now kind_init r × TypeAt tree.now v.1 }
     requires in_turn { InTurn tree.now text.now scratch.old (at c k.old) }
     ensures states_as { StatesAs (given assign_to_steps v) (at c k.old) r tree.now text.now arena.old scratch.old (stated k.new result) arena.new scratch.new }
     ensures types { StatesTyped assign_types (at c k.old) r tree.now text.now scratch.old (stated k.new result) scratch.new }
 {
-    let scope = c.scope;
     let e = reference(tree, r, WORD_C);
-    match convert_expr(tree, text, arena, scratch, k, c, e) {
-        Converted::Refused(x) => Stated::Refused(x),
-        Converted::Is(src) => match get_type(tree, text, scratch, scope, c.turn, e) {
-            ExprType::Refused(x) => Stated::Refused(x),
-            ExprType::Is(y) => {
-                let expected = v.1 as usize;
-                match check_fits(tree, e, y, expected, ConvertErrorKind::WrongAssignType, r) {
-                    Outcome::Refused(x) => Stated::Refused(x),
-                    Outcome::Done => {
-                        copy_fitted(tree, arena, k, v, src);
-                        Stated::Done(scope)
-                    }
-                }
-            }
-        },
-    }
+    let src = convert_expr(tree, text, arena, scratch, k, c, e)?;
+    let y = get_type(tree, text, scratch, c.scope, c.turn, e)?;
+    let expected = v.1 as usize;
+    check_fits(tree, e, y, expected, ConvertErrorKind::WrongAssignType, r)?;
+    copy_fitted(tree, arena, k, v, src);
+    Ok(c.scope)
 }
 
 fn convert_assign(
@@ -193,19 +180,18 @@ fn convert_assign(
     k: &mut [usize],
     c: Converter,
     r: usize,
-    v: VarId,
-    constant: bool,
-) -> Stated
+    known: Known,
+) -> Result<Scope, ConvertError>
     requires converting { Converting tree.now text.now arena.old scratch.old (at c k.old) × BehindAfforded tree.now text.now (at c k.old) r }
-    requires kind { IsKind tree.now kind_init r × TypeAt tree.now v.1 }
+    requires kind { IsKind tree.now kind_init r × TypeAt tree.now known.var.1 }
     requires in_turn { InTurn tree.now text.now scratch.old (at c k.old) }
-    ensures states_as { StatesAs (givens assign_steps v constant) (at c k.old) r tree.now text.now arena.old scratch.old (stated k.new result) arena.new scratch.new }
+    ensures states_as { StatesAs (givens assign_steps known.var known.constant) (at c k.old) r tree.now text.now arena.old scratch.old (stated k.new result) arena.new scratch.new }
     ensures types { StatesTyped assign_types (at c k.old) r tree.now text.now scratch.old (stated k.new result) scratch.new }
 {
-    if constant {
-        return Stated::Refused(error_at(ConvertErrorKind::AssignToConstant, r));
+    if known.constant {
+        return Err(error_at(ConvertErrorKind::AssignToConstant, r));
     }
-    assign_to(tree, text, arena, scratch, k, c, r, v)
+    assign_to(tree, text, arena, scratch, k, c, r, known.var)
 }
 
 // What a new variable of a value of type y has as its type: an address to nothing for Null.
@@ -229,23 +215,20 @@ fn declare_init(
     r: usize,
     y: usize,
     src: Operand,
-) -> Stated
+) -> Result<Scope, ConvertError>
     requires converting { Converting tree.now text.now arena.old scratch.old (at c k.old) × Afforded tree.now (at c k.old) (amount 1 1 0 0 0) 0 1 }
     requires kind { IsKind tree.now kind_init r × TypeAt tree.now y }
     requires in_turn { InTurn tree.now text.now scratch.old (at c k.old) }
     ensures declares_as { DeclaresAs (givens declare_init_steps y src) (at c k.old) r tree.now text.now arena.old scratch.old (stated k.new result) arena.new scratch.new }
     ensures types { StatesTyped no_types (at c k.old) r tree.now text.now scratch.old (stated k.new result) scratch.new }
 {
-    let scope = c.scope;
     let constant = detail(tree, r) == 1;
     let v = new_var(arena, k, init_type(y) as u32);
-    match declare_name(tree, text, scratch, scope, r, v, constant) {
-        Declared::Taken => Stated::Refused(error_at(ConvertErrorKind::AlreadyDeclared, r)),
-        Declared::Done(next) => {
-            emit_copy(arena, k, v, src);
-            Stated::Done(next)
-        }
-    }
+    let Some(next) = declare_name(tree, text, scratch, c.scope, r, v, constant) else {
+        return Err(error_at(ConvertErrorKind::AlreadyDeclared, r));
+    };
+    emit_copy(arena, k, v, src);
+    Ok(next)
 }
 
 // The Init r of a new name.
@@ -257,22 +240,17 @@ fn init_new(
     k: &mut [usize],
     c: Converter,
     r: usize,
-) -> Stated
+) -> Result<Scope, ConvertError>
     requires converting { Converting tree.now text.now arena.old scratch.old (at c k.old) × BehindAfforded tree.now text.now (at c k.old) r }
     requires kind { IsKind tree.now kind_init r }
     requires in_turn { InTurn tree.now text.now scratch.old (at c k.old) }
     ensures states_as { StatesAs init_new_steps (at c k.old) r tree.now text.now arena.old scratch.old (stated k.new result) arena.new scratch.new }
     ensures types { StatesTyped init_types (at c k.old) r tree.now text.now scratch.old (stated k.new result) scratch.new }
 {
-    let scope = c.scope;
     let e = reference(tree, r, WORD_C);
-    match get_type(tree, text, scratch, scope, c.turn, e) {
-        ExprType::Refused(x) => Stated::Refused(x),
-        ExprType::Is(y) => match convert_expr(tree, text, arena, scratch, k, c, e) {
-            Converted::Refused(x) => Stated::Refused(x),
-            Converted::Is(src) => declare_init(tree, text, arena, scratch, k, c, r, y, src),
-        },
-    }
+    let y = get_type(tree, text, scratch, c.scope, c.turn, e)?;
+    let src = convert_expr(tree, text, arena, scratch, k, c, e)?;
+    declare_init(tree, text, arena, scratch, k, c, r, y, src)
 }
 
 // The Init r: a plain one of a known name assigns.
@@ -284,22 +262,19 @@ pub(crate) fn convert_init(
     k: &mut [usize],
     c: Converter,
     r: usize,
-) -> Stated
+) -> Result<Scope, ConvertError>
     requires converting { Converting tree.now text.now arena.old scratch.old (at c k.old) × BehindAfforded tree.now text.now (at c k.old) r }
     requires kind { IsKind tree.now kind_init r }
     requires in_turn { InTurn tree.now text.now scratch.old (at c k.old) }
     ensures states_as { StatesAs init_steps (at c k.old) r tree.now text.now arena.old scratch.old (stated k.new result) arena.new scratch.new }
     ensures types { StatesTyped init_types (at c k.old) r tree.now text.now scratch.old (stated k.new result) scratch.new }
 {
-    let scope = c.scope;
     if detail(tree, r) == 1 {
         return init_new(tree, text, arena, scratch, k, c, r);
     }
-    match find_name(tree, text, scratch, scope, r) {
-        Known::Is(v, constant) => {
-            convert_assign(tree, text, arena, scratch, k, c, r, v, constant)
-        }
-        Known::Unknown => init_new(tree, text, arena, scratch, k, c, r),
+    match find_name(tree, text, scratch, c.scope, r) {
+        Some(known) => convert_assign(tree, text, arena, scratch, k, c, r, known),
+        None => init_new(tree, text, arena, scratch, k, c, r),
     }
 }
 
@@ -314,26 +289,19 @@ fn return_as(
     r: usize,
     y: usize,
     expected: usize,
-) -> Stated
+) -> Result<Scope, ConvertError>
     requires converting { Converting tree.now text.now arena.old scratch.old (at c k.old) × BehindAfforded tree.now text.now (at c k.old) r }
     requires kind { IsKind tree.now kind_return r × TypeAt tree.now y × TypeAt tree.now expected }
     requires in_turn { InTurn tree.now text.now scratch.old (at c k.old) }
     ensures states_as { StatesAs (givens return_as_steps y expected) (at c k.old) r tree.now text.now arena.old scratch.old (stated k.new result) arena.new scratch.new }
     ensures types { StatesTyped return_as_types (at c k.old) r tree.now text.now scratch.old (stated k.new result) scratch.new }
 {
-    let scope = c.scope;
     let e = reference(tree, r, WORD_A);
-    match check_fits(tree, e, y, expected, ConvertErrorKind::WrongReturnType, r) {
-        Outcome::Refused(x) => Stated::Refused(x),
-        Outcome::Done => match convert_expr(tree, text, arena, scratch, k, c, e) {
-            Converted::Refused(x) => Stated::Refused(x),
-            Converted::Is(value) => {
-                let fitted = fit_operand(tree, arena, k, value, expected);
-                emit_return(arena, k, fitted);
-                Stated::Done(scope)
-            }
-        },
-    }
+    check_fits(tree, e, y, expected, ConvertErrorKind::WrongReturnType, r)?;
+    let value = convert_expr(tree, text, arena, scratch, k, c, e)?;
+    let fitted = fit_operand(tree, arena, k, value, expected);
+    emit_return(arena, k, fitted);
+    Ok(c.scope)
 }
 
 // The Return r: its type is held against the function's before the value is converted.
@@ -345,25 +313,20 @@ pub(crate) fn convert_return(
     k: &mut [usize],
     c: Converter,
     r: usize,
-) -> Stated
+) -> Result<Scope, ConvertError>
     requires converting { Converting tree.now text.now arena.old scratch.old (at c k.old) × BehindAfforded tree.now text.now (at c k.old) r }
     requires kind { IsKind tree.now kind_return r }
     requires in_turn { InTurn tree.now text.now scratch.old (at c k.old) }
     ensures states_as { StatesAs return_steps (at c k.old) r tree.now text.now arena.old scratch.old (stated k.new result) arena.new scratch.new }
     ensures types { StatesTyped head_types (at c k.old) r tree.now text.now scratch.old (stated k.new result) scratch.new }
 {
-    let scope = c.scope;
     let e = reference(tree, r, WORD_A);
-    let expected = reference(tree, scope.function as usize, WORD_D);
-    match get_type(tree, text, scratch, scope, c.turn, e) {
-        ExprType::Refused(x) => Stated::Refused(x),
-        ExprType::Is(y) => {
-            if expected == NONE as usize {
-                return Stated::Refused(error_at(ConvertErrorKind::ReturnWithoutType, r));
-            }
-            return_as(tree, text, arena, scratch, k, c, r, y, expected)
-        }
+    let expected = reference(tree, c.scope.function as usize, WORD_D);
+    let y = get_type(tree, text, scratch, c.scope, c.turn, e)?;
+    if expected == NONE as usize {
+        return Err(error_at(ConvertErrorKind::ReturnWithoutType, r));
     }
+    return_as(tree, text, arena, scratch, k, c, r, y, expected)
 }
 
 // A call of f by the call e, whose result is not used.
@@ -376,22 +339,17 @@ fn call_only(
     c: Converter,
     e: usize,
     f: usize,
-) -> Stated
+) -> Result<Scope, ConvertError>
     requires converting { Converting tree.now text.now arena.old scratch.old (at c k.old) × ExprAfforded tree.now text.now (at c k.old) e }
     requires kind { IsKind tree.now kind_call e × FunctionAt tree.now f }
     requires in_turn { InTurn tree.now text.now scratch.old (at c k.old) }
     ensures call_only_as { CallOnlyAs (given call_only_steps f) (at c k.old) e tree.now text.now arena.old scratch.old (stated k.new result) arena.new scratch.new }
     ensures types { StatesTyped call_only_types (at c k.old) e tree.now text.now scratch.old (stated k.new result) scratch.new }
 {
-    let scope = c.scope;
-    match convert_args(tree, text, arena, scratch, k, c, e) {
-        ConvertedArgs::Refused(x) => Stated::Refused(x),
-        ConvertedArgs::Done(count) => {
-            pass_args(tree, text, arena, scratch, k, c, e, f, count);
-            emit_call_only(arena, k, f as u32);
-            Stated::Done(scope)
-        }
-    }
+    let count = convert_args(tree, text, arena, scratch, k, c, e)?;
+    pass_args(tree, text, arena, scratch, k, c, e, f, count);
+    emit_call_only(arena, k, f as u32);
+    Ok(c.scope)
 }
 
 // The call statement r whose expression e is a call; at a cast the Rust would panic.
@@ -404,18 +362,16 @@ fn call_statement(
     c: Converter,
     r: usize,
     e: usize,
-) -> Stated
+) -> Result<Scope, ConvertError>
     requires converting { Converting tree.now text.now arena.old scratch.old (at c k.old) × BehindAfforded tree.now text.now (at c k.old) r }
     requires kind { IsKind tree.now kind_call_statement r × IsKind tree.now kind_call e × (e ≡ word_of tree.now r Words.A) }
     requires in_turn { InTurn tree.now text.now scratch.old (at c k.old) }
     ensures states_as { StatesAs call_statement_steps (at c k.old) r tree.now text.now arena.old scratch.old (stated k.new result) arena.new scratch.new }
     ensures types { StatesTyped own_types (at c k.old) r tree.now text.now scratch.old (stated k.new result) scratch.new }
 {
-    let scope = c.scope;
-    match resolve_call(tree, text, scratch, scope, c.turn, e) {
-        Resolved::Refused(x) => Stated::Refused(x),
-        Resolved::Cast(_) => Stated::Refused(error_at(ConvertErrorKind::WouldPanic, r)),
-        Resolved::Function(f) => call_only(tree, text, arena, scratch, k, c, e, f),
+    match resolve_call(tree, text, scratch, c.scope, c.turn, e)? {
+        Callee::Cast(_) => Err(error_at(ConvertErrorKind::WouldPanic, r)),
+        Callee::Function(f) => call_only(tree, text, arena, scratch, k, c, e, f),
     }
 }
 
@@ -428,22 +384,42 @@ pub(crate) fn convert_call(
     k: &mut [usize],
     c: Converter,
     r: usize,
-) -> Stated
+) -> Result<Scope, ConvertError>
     requires converting { Converting tree.now text.now arena.old scratch.old (at c k.old) × BehindAfforded tree.now text.now (at c k.old) r }
     requires kind { IsKind tree.now kind_call_statement r }
     requires in_turn { InTurn tree.now text.now scratch.old (at c k.old) }
     ensures states_as { StatesAs call_statement_steps (at c k.old) r tree.now text.now arena.old scratch.old (stated k.new result) arena.new scratch.new }
     ensures types { StatesTyped own_types (at c k.old) r tree.now text.now scratch.old (stated k.new result) scratch.new }
 {
-    let scope = c.scope;
     let e = reference(tree, r, WORD_A);
     if kind(tree, e) == KIND_CALL {
         return call_statement(tree, text, arena, scratch, k, c, r, e);
     }
-    match get_type(tree, text, scratch, scope, c.turn, e) {
-        ExprType::Refused(x) => Stated::Refused(x),
-        ExprType::Is(_) => Stated::Done(scope),
-    }
+    get_type(tree, text, scratch, c.scope, c.turn, e)?;
+    Ok(c.scope)
+}
+
+// A jump to the label of this kind of the innermost loop; outside of all loops it is refused.
+fn jump_in_loop(
+    tree: &[u8],
+    text: &[u8],
+    arena: &mut [u8],
+    scratch: &[u8],
+    k: &mut [usize],
+    c: Converter,
+    r: usize,
+    kind: LabelKind,
+    outside: ConvertErrorKind,
+) -> Result<Scope, ConvertError>
+    requires converting { Converting tree.now text.now arena.old scratch.now (at c k.old) × BehindAfforded tree.now text.now (at c k.old) r }
+    requires r_bound { r < 4294967296 }
+    ensures { StatesAs (givens loop_jump_steps kind outside) (at c k.old) r tree.now text.now arena.old scratch.now (stated k.new result) arena.new scratch.now }
+{
+    let Some(l) = c.scope.in_loop() else {
+        return Err(error_at(outside, r));
+    };
+    jump(arena, k, kind, l as usize);
+    Ok(c.scope)
 }
 
 // The Break r goes to the end of the innermost loop.
@@ -455,19 +431,14 @@ pub(crate) fn convert_break(
     k: &mut [usize],
     c: Converter,
     r: usize,
-) -> Stated
+) -> Result<Scope, ConvertError>
     requires converting { Converting tree.now text.now arena.old scratch.now (at c k.old) × BehindAfforded tree.now text.now (at c k.old) r }
     requires kind { IsKind tree.now kind_break r }
     ensures { StatesAs break_steps (at c k.old) r tree.now text.now arena.old scratch.now (stated k.new result) arena.new scratch.now }
 {
-    let scope = c.scope;
-    match scope.in_loop() {
-        InLoop::Outside => Stated::Refused(error_at(ConvertErrorKind::BreakOutOfLoop, r)),
-        InLoop::Of(l) => {
-            jump(arena, k, LOOP_END, l as usize);
-            Stated::Done(scope)
-        }
-    }
+    let end = LabelKind::LoopEnd;
+    let outside = ConvertErrorKind::BreakOutOfLoop;
+    jump_in_loop(tree, text, arena, scratch, k, c, r, end, outside)
 }
 
 // The Continue r goes to the start of the innermost loop, which for a For is where it counts on.
@@ -479,17 +450,12 @@ pub(crate) fn convert_continue(
     k: &mut [usize],
     c: Converter,
     r: usize,
-) -> Stated
+) -> Result<Scope, ConvertError>
     requires converting { Converting tree.now text.now arena.old scratch.now (at c k.old) × BehindAfforded tree.now text.now (at c k.old) r }
     requires kind { IsKind tree.now kind_continue r }
     ensures { StatesAs continue_steps (at c k.old) r tree.now text.now arena.old scratch.now (stated k.new result) arena.new scratch.now }
 {
-    let scope = c.scope;
-    match scope.in_loop() {
-        InLoop::Outside => Stated::Refused(error_at(ConvertErrorKind::ContinueOutOfLoop, r)),
-        InLoop::Of(l) => {
-            jump(arena, k, LOOP_START, l as usize);
-            Stated::Done(scope)
-        }
-    }
+    let start = LabelKind::LoopStart;
+    let outside = ConvertErrorKind::ContinueOutOfLoop;
+    jump_in_loop(tree, text, arena, scratch, k, c, r, start, outside)
 }

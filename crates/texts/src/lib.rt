@@ -19,19 +19,18 @@ use records::numbers::{KIND_CALL, KIND_DECLARE, KIND_INIT, KIND_NAME, KIND_STR, 
 use records::order::{enter_at, find_place};
 use records::samples::{sample, sampled_roll, stride_within};
 use records::texts::{roll_digest, text_roll};
-use records::words::{RECORD_BYTES, WORD_A, WORD_B, index, kind, load, put_pair, put_word, word};
+use records::words::{RECORD_BYTES, WORD_A, WORD_B, kind, load, put_pair, put_word, word};
 use sorting::sorted::{SORT_ENTRY_BYTES, number_sorted, sort_records};
 
 // Whether words A and B of a record of this kind are a text.
+#[tactic(auto, unfolding(crate::specs::Texts::has_text))]
 fn has_text(k: u8) -> bool
     ensures { result ≡ has_text k }
 {
-    (k == KIND_STR)
-        | (k == KIND_NAME)
-        | (k == KIND_CALL)
-        | (k == KIND_DECLARE)
-        | (k == KIND_INIT)
-        | (k == KIND_VARIABLE)
+    matches!(
+        k,
+        KIND_STR | KIND_NAME | KIND_CALL | KIND_DECLARE | KIND_INIT | KIND_VARIABLE
+    )
 }
 
 // A text's number, and how many entries of its chain were passed to find it.
@@ -51,20 +50,12 @@ fn number_text(tree: &[u8], text: &[u8], r: usize, b: usize, scratch: &mut [u8])
 {
     let n = tree.len() / RECORD_BYTES;
     let place = find_place(tree, text, scratch, n, r, CHAIN_HEAD_BYTES * b);
-    let number = place.number;
-    if number < r {
-        let found = number as u32;
-        return Walk {
-            number: found,
-            passed: place.passed,
-        };
+    if place.number >= r {
+        let next = load(scratch, place.at);
+        enter_at(scratch, n, r, place.shared, place.at, next);
     }
-    let at = place.at;
-    let next = load(scratch, at);
-    enter_at(scratch, n, r, place.shared, at, next);
-    let new = number as u32;
     Walk {
-        number: new,
+        number: place.number as u32,
         passed: place.passed,
     }
 }
@@ -102,18 +93,12 @@ fn read_long(text: &[u8], n: usize, r: usize, len: u32, k: Reading, scratch: &mu
     if (len <= SHORT) | (k.stride > 0) {
         return k;
     }
-    let long = k.long + index(len);
+    let long = k.long + len as usize;
     if long / OVERLAPPING <= text.len() {
-        return Reading {
-            stride: 0,
-            long: long,
-        };
+        return Reading { stride: 0, long };
     }
     let stride = sample_text(text, n, scratch);
-    Reading {
-        stride: stride,
-        long: long,
-    }
+    Reading { stride, long }
 }
 
 // The digest of a text that goes on. The samples stand behind the chains.
@@ -190,10 +175,8 @@ fn roll_texts(tree: &[u8], text: &[u8], from: usize, known: Reading, scratch: &m
 {
     let n = tree.len() / RECORD_BYTES;
     let mut k = known;
-    let mut r = from;
-    while r < n {
+    for r in from..n {
         k = roll_record(tree, text, r, k, scratch);
-        r += 1;
     }
 }
 
@@ -220,10 +203,8 @@ fn collect_texts(tree: &[u8], scratch: &mut [u8]) -> usize
 {
     let n = tree.len() / RECORD_BYTES;
     let mut m = 0;
-    let mut r = 0;
-    while r < n {
+    for r in 0..n {
         m = collect_record(tree, r, m, scratch);
-        r += 1;
     }
     m
 }
@@ -258,13 +239,11 @@ pub fn number_texts(tree: &[u8], text: &[u8], scratch: &mut [u8])
     let n = tree.len() / RECORD_BYTES;
     clear_heads(scratch, CHAIN_HEAD_BYTES * n);
     let mut k = Reading { stride: 0, long: 0 };
-    let mut r = 0;
-    while r < n {
+    for r in 0..n {
         let step = number_record(tree, text, r, k, scratch);
         k = step.reading;
-        r += 1;
         if step.passed > FAR {
-            number_by_sorting(tree, text, r, k, scratch);
+            number_by_sorting(tree, text, r + 1, k, scratch);
             return;
         }
     }
@@ -275,7 +254,7 @@ pub fn original(scratch: &[u8], n: usize, r: usize) -> usize
     requires { original_at n r + 4 ≤ length scratch.now }
     ensures { result ≡ word_at scratch.now (original_at n r) }
 {
-    index(load(scratch, ORIGINALS * n + ORIGINAL_BYTES * r))
+    load(scratch, ORIGINALS * n + ORIGINAL_BYTES * r) as usize
 }
 
 // The digest of record r's text that goes on, as it stands there.

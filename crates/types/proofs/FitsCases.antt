@@ -12,8 +12,8 @@ use lib.Ieee.{Float}
 use borrow.Author.Tests.{eq-eqb, ne_eqb}
 use Rattle.records.specs.Words.{detail_of, word_of}
 use Rattle.int128.specs.declared.Int128.{Int128}
-use Rattle.int128.specs.declared.Checked.{Checked}
-use Rattle.int128.specs.declared.Checked.TheVariants.{Value, Nothing}
+use Rattle.std.specs.Prelude as Std
+use Rattle.std.specs.Prelude.{Some, None}
 use Rattle.int128.specs.Value.{value_of, checked_of}
 use Rattle.int128.specs.Ops.{int_fits}
 use Rattle.syntax.specs.Decode.{bit, expr_of, node, type_at}
@@ -26,48 +26,45 @@ use Rattle.types.proofs.TypeCases.{type-is, type_int, type_float, type_address, 
 
 -- ---- what a constant folds to
 
-module _ (o : Option ℤ) (x : Checked) (ex : checked_of x ≡ o) where
-  pub int_fits-value : (v : Int128) → x ≡ Value v → (s u a b r : Bool) → s ≡ a → u ≡ b → r ≡ int_fits (value_of v) s u
+module _ (o : Option ℤ) (x : Std.Option Int128) (ex : checked_of x ≡ o) where
+  pub int_fits-value : (v : Int128) → x ≡ Some v → (s u a b r : Bool) → s ≡ a → u ≡ b → r ≡ int_fits (value_of v) s u
       → r ≡ some_and o (λ z. int_fits z a b)
   unfolding some_and
   int_fits-value v e s u a b r es eu er = rw (← ex, e, ← es, ← eu) er
 
-  pub int_fits_nothing : x ≡ Nothing → (p : ℤ → Bool) → false ≡ some_and o p
+  pub int_fits_nothing : x ≡ None → (p : ℤ → Bool) → false ≡ some_and o p
   unfolding some_and
   int_fits_nothing e p = rw (← ex, e)
 
-  pub int_some : (v : Int128) → x ≡ Value v → true ≡ is_some o
+  pub int-is_some : Std.is_some x ≡ is_some o
   unfolding is_some some_and
-  int_some v e = rw (← ex, e)
+  int-is_some = told x ∙ ap is_some ex
+    where
+      told : (y : Std.Option Int128) → Std.is_some y ≡ is_some (checked_of y)
+      told (Some v) = refl
+      told None = refl
 
-  pub int_none : x ≡ Nothing → false ≡ is_some o
-  unfolding is_some some_and
-  int_none e = rw (← ex, e)
-
-module _ (o : Option Float) (x : FloatValue) (ex : float_of x ≡ o) where
-  pub float_fits-value : (v : Float) → x ≡ F.Value v → (s a r : Bool) → s ≡ a → r ≡ float_fits v s → r ≡ some_and o (λ z. float_fits z a)
+module _ (o : Option Float) (x : Std.Option FloatValue) (ex : float_of x ≡ o) where
+  pub float_fits-value : (v : Float) → x ≡ Some (F.Value v) → (s a r : Bool) → s ≡ a → r ≡ float_fits v s → r ≡ some_and o (λ z. float_fits z a)
   unfolding some_and float_of
   float_fits-value v e s a r es er = rw (← ex, e, ← es) er
 
-  pub float_fits_nan : x ≡ F.Nan → (a : Bool) → false ≡ some_and o (λ z. float_fits z a)
+  pub float_fits_nan : x ≡ Some F.Nan → (a : Bool) → false ≡ some_and o (λ z. float_fits z a)
   unfolding some_and float_of float_fits
   float_fits_nan e a = rw (← ex, e)
 
-  pub float_fits_nothing : x ≡ F.Nothing → (p : Float → Bool) → false ≡ some_and o p
+  pub float_fits_nothing : x ≡ None → (p : Float → Bool) → false ≡ some_and o p
   unfolding some_and float_of
   float_fits_nothing e p = rw (← ex, e)
 
-  pub float_some : (v : Float) → x ≡ F.Value v → true ≡ is_some o
+  pub float-is_some : Std.is_some x ≡ is_some o
   unfolding is_some some_and float_of
-  float_some v e = rw (← ex, e)
-
-  pub float_nan_some : x ≡ F.Nan → true ≡ is_some o
-  unfolding is_some some_and float_of
-  float_nan_some e = rw (← ex, e)
-
-  pub float_none : x ≡ F.Nothing → false ≡ is_some o
-  unfolding is_some some_and float_of
-  float_none e = rw (← ex, e)
+  float-is_some = told x ∙ ap is_some ex
+    where
+      told : (y : Std.Option FloatValue) → Std.is_some y ≡ is_some (float_of y)
+      told (Some (F.Value v)) = refl
+      told (Some F.Nan) = refl
+      told None = refl
 
 -- ---- a type of another form
 
@@ -173,7 +170,3 @@ module _ (tree text : List ℕ) (e ty expected : ℕ) where
     pub range_no : l ≡ false → false ≡ range_error_at tree text e ty expected
     unfolding range_error_at range_error literal_at
     range_no q = rw (sym el ∙ q)
-
--- the second of two addresses is to Null, where the first is not
-pub nothing_right : (a a' b b' : ℕ) → a ≡ a' → (a ≡ 9 → ⊥) → b ≡ b' → eqb b 9 ≡ (eqb a' 9 || eqb b' 9)
-nothing_right a a' b b' e n q = rw (ne_eqb a' 9 (λ h. n (e ∙ h)), q)

@@ -16,6 +16,7 @@ use borrow.Author.Tests.{lt-ltb, eq-eqb, ne_eqb, eqb-true, eqb-false}
 use denote.Floats.{passes}
 use Rattle.conversion.specs.Types.{float_fits}
 use Rattle.types.specs.declared.float_value.FloatValue.TheVariants as F
+use Rattle.std.specs.Prelude.{Some}
 use Rattle.types.specs.Floats.{float_of, finite, small}
 
 -- what is no NaN equals itself
@@ -139,10 +140,10 @@ nan_is nan e = refl
 nan_is (inf s) e = absurd (subst T (sym e) tt)
 nan_is (fin s m k) e = absurd (subst T (sym e) tt)
 
-pub bits_nan : (b : ℕ) → nan_bits binary64 b ≡ true → float_of F.Nan ≡ some (of_bits binary64 b)
+pub bits_nan : (b : ℕ) → nan_bits binary64 b ≡ true → float_of (Some F.Nan) ≡ some (of_bits binary64 b)
 unfolding float_of
 bits_nan b e = ap some (nan_is (of_bits binary64 b) (sym (nan_bits_is binary64 b) ∙ e))
 
-pub told_nan : (x : Float) → eq x x ≡ false → float_of F.Nan ≡ some x
+pub told_nan : (x : Float) → eq x x ≡ false → float_of (Some F.Nan) ≡ some x
 unfolding float_of ne
 told_nan x e = ap some (sym (differs_from_itself x (passes (not (eq x x)) (ap not e))))

@@ -14,8 +14,8 @@ use lib.Dec.{T}
 use borrow.Author.Tests.{eq-eqb, ne_eqb}
 use Rattle.laws.specs.Fix.{pick}
 use Rattle.int128.specs.declared.Int128.{Int128}
-use Rattle.int128.specs.declared.Checked.{Checked}
-use Rattle.int128.specs.declared.Checked.TheVariants.{Value, Nothing}
+use Rattle.std.specs.Prelude as Std
+use Rattle.std.specs.Prelude.{Some, None}
 use Rattle.int128.specs.Value.{value_of, checked_of}
 use Rattle.int128.specs.Ops.{neg_of, not_of, add_of, sub_of, mul_of, div_of, rem_of, and_of, or_of, xor_of, shl_of, shr_of, by_count}
 use Rattle.syntax.specs.Syntax.{UnaryOp, Neg, Or, unary_ops, binary_ops}
@@ -55,49 +55,49 @@ same-no (pos m) (negsuc n) d = refl
 same-no (negsuc m) (pos n) d = refl
 same-no (negsuc m) (negsuc n) d = ne_eqb m n (λ e. d (ap negsuc e))
 
-module _ (a b : ℤ) (x : Checked) (ex : checked_of x ≡ by_count (shl_of a) b) where
-  pub shift_nothing : x ≡ Nothing → checked_of Nothing ≡ shl_kept a b
+module _ (a b : ℤ) (x : Std.Option Int128) (ex : checked_of x ≡ by_count (shl_of a) b) where
+  pub shift_nothing : x ≡ None → checked_of None ≡ shl_kept a b
   unfolding shl_kept taken_back
   shift_nothing e = ap (taken_back a b) (sym (ap checked_of e) ∙ ex)
 
-  module _ (v : Int128) (ev : x ≡ Value v) (y : Checked) (ey : checked_of y ≡ by_count (shr_of (value_of v)) b) where
+  module _ (v : Int128) (ev : x ≡ Some v) (y : Std.Option Int128) (ey : checked_of y ≡ by_count (shr_of (value_of v)) b) where
     shifted : kept_if a (value_of v) (checked_of y) ≡ shl_kept a b
     unfolding shl_kept taken_back
     shifted = ap (kept_if a (value_of v)) ey ∙ ap (taken_back a b) (sym (ap checked_of ev) ∙ ex)
 
-    pub back_nothing : y ≡ Nothing → checked_of Nothing ≡ shl_kept a b
+    pub back_nothing : y ≡ None → checked_of None ≡ shl_kept a b
     unfolding kept_if
-    back_nothing e = ap (λ (z : Checked). kept_if a (value_of v) (checked_of z)) (sym e) ∙ shifted
+    back_nothing e = ap (λ (z : Std.Option Int128). kept_if a (value_of v) (checked_of z)) (sym e) ∙ shifted
 
-    module _ (w : Int128) (ew : y ≡ Value w) where
+    module _ (w : Int128) (ew : y ≡ Some w) where
       back : pick (same_int (value_of w) a) (some (value_of v)) none ≡ shl_kept a b
       unfolding kept_if
-      back = ap (λ (z : Checked). kept_if a (value_of v) (checked_of z)) (sym ew) ∙ shifted
+      back = ap (λ (z : Std.Option Int128). kept_if a (value_of v) (checked_of z)) (sym ew) ∙ shifted
 
-      pub back_same : value_of w ≡ a → checked_of (Value v) ≡ shl_kept a b
+      pub back_same : value_of w ≡ a → checked_of (Some v) ≡ shl_kept a b
       unfolding pick
       back_same e = ap (λ (t : Bool). pick t (some (value_of v)) none) (sym (same_yes (value_of w) a e)) ∙ back
 
-      pub back_other : (value_of w ≡ a → ⊥) → checked_of Nothing ≡ shl_kept a b
+      pub back_other : (value_of w ≡ a → ⊥) → checked_of None ≡ shl_kept a b
       unfolding pick
       back_other d = ap (λ (t : Bool). pick t (some (value_of v)) none) (sym (same-no (value_of w) a d)) ∙ back
 
 module _ (op : ℕ) where
   -- ---- integers
-  pub unary_nothing : (x : Checked) → x ≡ Nothing → checked_of Nothing ≡ fold_unary (get_or unary_ops op Neg) (checked_of x)
+  pub unary_nothing : (x : Std.Option Int128) → x ≡ None → checked_of None ≡ fold_unary (get_or unary_ops op Neg) (checked_of x)
   unfolding fold_unary
   unary_nothing x e = rw e
 
-  module _ (x : Checked) (v : Int128) (ex : x ≡ Value v) where
-    pub unary-not : op ≡ 1 → (w : Int128) → value_of w ≡ not_of (value_of v) → checked_of (Value w) ≡ fold_unary (get_or unary_ops op Neg) (checked_of x)
+  module _ (x : Std.Option Int128) (v : Int128) (ex : x ≡ Some v) where
+    pub unary-not : op ≡ 1 → (w : Int128) → value_of w ≡ not_of (value_of v) → checked_of (Some w) ≡ fold_unary (get_or unary_ops op Neg) (checked_of x)
     unfolding fold_unary
     unary-not e w ew = rw (ex, e) (ap some ew)
 
-    pub unary-none : op ≡ 2 → checked_of Nothing ≡ fold_unary (get_or unary_ops op Neg) (checked_of x)
+    pub unary-none : op ≡ 2 → checked_of None ≡ fold_unary (get_or unary_ops op Neg) (checked_of x)
     unfolding fold_unary
     unary-none e = rw (ex, e)
 
-    pub unary_neg : (op ≡ 1 → ⊥) → (op ≡ 2 → ⊥) → (w : Checked) → checked_of w ≡ neg_of (value_of v) → checked_of w ≡ fold_unary (get_or unary_ops op Neg) (checked_of x)
+    pub unary_neg : (op ≡ 1 → ⊥) → (op ≡ 2 → ⊥) → (w : Std.Option Int128) → checked_of w ≡ neg_of (value_of v) → checked_of w ≡ fold_unary (get_or unary_ops op Neg) (checked_of x)
     unfolding fold_unary
     unary_neg n₁ n₂ w ew = rw (ex, neg_is op n₁ n₂) ew
 
@@ -118,31 +118,31 @@ module _ (op : ℕ) where
     unfolding fold_two
     two_past h = rw (past-or h)
 
-    pub two_shl : op ≡ 11 → (r : Checked) → checked_of r ≡ shl_kept a b → checked_of r ≡ fold_two (get_or binary_ops op Or) a b
+    pub two_shl : op ≡ 11 → (r : Std.Option Int128) → checked_of r ≡ shl_kept a b → checked_of r ≡ fold_two (get_or binary_ops op Or) a b
     unfolding fold_two
     two_shl e r q = rw e q
 
-    pub two_shr : op ≡ 12 → (r : Checked) → checked_of r ≡ by_count (shr_of a) b → checked_of r ≡ fold_two (get_or binary_ops op Or) a b
+    pub two_shr : op ≡ 12 → (r : Std.Option Int128) → checked_of r ≡ by_count (shr_of a) b → checked_of r ≡ fold_two (get_or binary_ops op Or) a b
     unfolding fold_two
     two_shr e r q = rw e q
 
-    pub two_add : op ≡ 13 → (r : Checked) → checked_of r ≡ add_of a b → checked_of r ≡ fold_two (get_or binary_ops op Or) a b
+    pub two_add : op ≡ 13 → (r : Std.Option Int128) → checked_of r ≡ add_of a b → checked_of r ≡ fold_two (get_or binary_ops op Or) a b
     unfolding fold_two
     two_add e r q = rw e q
 
-    pub two_sub : op ≡ 14 → (r : Checked) → checked_of r ≡ sub_of a b → checked_of r ≡ fold_two (get_or binary_ops op Or) a b
+    pub two_sub : op ≡ 14 → (r : Std.Option Int128) → checked_of r ≡ sub_of a b → checked_of r ≡ fold_two (get_or binary_ops op Or) a b
     unfolding fold_two
     two_sub e r q = rw e q
 
-    pub two_mul : op ≡ 15 → (r : Checked) → checked_of r ≡ mul_of a b → checked_of r ≡ fold_two (get_or binary_ops op Or) a b
+    pub two_mul : op ≡ 15 → (r : Std.Option Int128) → checked_of r ≡ mul_of a b → checked_of r ≡ fold_two (get_or binary_ops op Or) a b
     unfolding fold_two
     two_mul e r q = rw e q
 
-    pub two_div : op ≡ 16 → (r : Checked) → checked_of r ≡ div_of a b → checked_of r ≡ fold_two (get_or binary_ops op Or) a b
+    pub two_div : op ≡ 16 → (r : Std.Option Int128) → checked_of r ≡ div_of a b → checked_of r ≡ fold_two (get_or binary_ops op Or) a b
     unfolding fold_two
     two_div e r q = rw e q
 
-    pub two_rem : op ≡ 17 → (r : Checked) → checked_of r ≡ rem_of a b → checked_of r ≡ fold_two (get_or binary_ops op Or) a b
+    pub two_rem : op ≡ 17 → (r : Std.Option Int128) → checked_of r ≡ rem_of a b → checked_of r ≡ fold_two (get_or binary_ops op Or) a b
     unfolding fold_two
     two_rem e r q = rw e q
 
@@ -165,22 +165,22 @@ module _ (op : ℕ) where
         → none ≡ fold_two (get_or binary_ops op Or) a b
     two_none h n₁ n₂ n₃ n₄ n₅ n₆ n₇ = two_past (beyond_17 op (beyond_13 op h n₁ n₂ n₃) n₄ n₅ n₆ n₇)
 
-  pub binary-left : (x y : Checked) → x ≡ Nothing → checked_of Nothing ≡ fold_binary (get_or binary_ops op Or) (checked_of x) (checked_of y)
+  pub binary-left : (x y : Std.Option Int128) → x ≡ None → checked_of None ≡ fold_binary (get_or binary_ops op Or) (checked_of x) (checked_of y)
   unfolding fold_binary
   binary-left x y e = rw e
 
-  module _ (x y : Checked) (v : Int128) (ex : x ≡ Value v) where
-    pub binary-right : y ≡ Nothing → checked_of Nothing ≡ fold_binary (get_or binary_ops op Or) (checked_of x) (checked_of y)
+  module _ (x y : Std.Option Int128) (v : Int128) (ex : x ≡ Some v) where
+    pub binary-right : y ≡ None → checked_of None ≡ fold_binary (get_or binary_ops op Or) (checked_of x) (checked_of y)
     unfolding fold_binary
     binary-right e = rw (ex, e)
 
-    pub binary_two : (w : Int128) → y ≡ Value w → (r : Checked) → checked_of r ≡ fold_two (get_or binary_ops op Or) (value_of v) (value_of w)
+    pub binary_two : (w : Int128) → y ≡ Some w → (r : Std.Option Int128) → checked_of r ≡ fold_two (get_or binary_ops op Or) (value_of v) (value_of w)
         → checked_of r ≡ fold_binary (get_or binary_ops op Or) (checked_of x) (checked_of y)
     unfolding fold_binary
     binary_two w ey r e = rw (ex, ey) e
 
   -- ---- floats
-  module _ (x : FloatValue) where
+  module _ (x : Std.Option FloatValue) where
     unless_neg : (o : UnaryOp) → (k : ℕ) → 1 ≤ k → k ≤ 2 → none ≡ neg_float (get_or unary_ops k Neg) (float_of x)
     unfolding neg_float
     unless_neg o zero h l = absurd (omega arith)
@@ -196,40 +196,40 @@ module _ (op : ℕ) where
         flip (some v) = refl
     unless_neg o (suc (suc (suc k))) h l = absurd (omega arith)
 
-    pub neg_not : op ≡ 1 → float_of F.Nothing ≡ neg_float (get_or unary_ops op Neg) (float_of x)
+    pub neg_not : op ≡ 1 → float_of None ≡ neg_float (get_or unary_ops op Neg) (float_of x)
     unfolding float_of
     neg_not e = unless_neg Neg op (omega arith) (omega arith)
 
-    pub neg_not_2 : op ≡ 2 → float_of F.Nothing ≡ neg_float (get_or unary_ops op Neg) (float_of x)
+    pub neg_not_2 : op ≡ 2 → float_of None ≡ neg_float (get_or unary_ops op Neg) (float_of x)
     unfolding float_of
     neg_not_2 e = unless_neg Neg op (omega arith) (omega arith)
 
     module _ (n₁ : op ≡ 1 → ⊥) (n₂ : op ≡ 2 → ⊥) where
-      pub neg_value : (v : Float) → x ≡ F.Value v → float_of (F.Value (Ieee.neg v)) ≡ neg_float (get_or unary_ops op Neg) (float_of x)
+      pub neg_value : (v : Float) → x ≡ Some (F.Value v) → float_of (Some (F.Value (Ieee.neg v))) ≡ neg_float (get_or unary_ops op Neg) (float_of x)
       unfolding float_of neg_float
       neg_value v e = rw (e, neg_is op n₁ n₂)
 
-      pub neg_nan : x ≡ F.Nan → float_of F.Nan ≡ neg_float (get_or unary_ops op Neg) (float_of x)
+      pub neg_nan : x ≡ Some F.Nan → float_of (Some F.Nan) ≡ neg_float (get_or unary_ops op Neg) (float_of x)
       unfolding float_of neg_float Ieee.neg
       neg_nan e = rw (e, neg_is op n₁ n₂)
 
-      pub neg_nothing : x ≡ F.Nothing → float_of F.Nothing ≡ neg_float (get_or unary_ops op Neg) (float_of x)
+      pub neg_nothing : x ≡ None → float_of None ≡ neg_float (get_or unary_ops op Neg) (float_of x)
       unfolding float_of neg_float
       neg_nothing e = rw e
 
-  pub float_add : op ≡ 13 → (a b : Float) (r : FloatValue) → float_of r ≡ some (Ieee.add binary64 a b) → float_of r ≡ float_two (get_or binary_ops op Or) a b
+  pub float_add : op ≡ 13 → (a b : Float) (r : Std.Option FloatValue) → float_of r ≡ some (Ieee.add binary64 a b) → float_of r ≡ float_two (get_or binary_ops op Or) a b
   unfolding float_two
   float_add e a b r q = rw e q
 
-  pub float_sub : op ≡ 14 → (a b : Float) (r : FloatValue) → float_of r ≡ some (Ieee.sub binary64 a b) → float_of r ≡ float_two (get_or binary_ops op Or) a b
+  pub float_sub : op ≡ 14 → (a b : Float) (r : Std.Option FloatValue) → float_of r ≡ some (Ieee.sub binary64 a b) → float_of r ≡ float_two (get_or binary_ops op Or) a b
   unfolding float_two
   float_sub e a b r q = rw e q
 
-  pub float_mul : op ≡ 15 → (a b : Float) (r : FloatValue) → float_of r ≡ some (Ieee.mul binary64 a b) → float_of r ≡ float_two (get_or binary_ops op Or) a b
+  pub float_mul : op ≡ 15 → (a b : Float) (r : Std.Option FloatValue) → float_of r ≡ some (Ieee.mul binary64 a b) → float_of r ≡ float_two (get_or binary_ops op Or) a b
   unfolding float_two
   float_mul e a b r q = rw e q
 
-  pub float_div : op ≡ 16 → (a b : Float) (r : FloatValue) → float_of r ≡ some (Ieee.div binary64 a b) → float_of r ≡ float_two (get_or binary_ops op Or) a b
+  pub float_div : op ≡ 16 → (a b : Float) (r : Std.Option FloatValue) → float_of r ≡ some (Ieee.div binary64 a b) → float_of r ≡ float_two (get_or binary_ops op Or) a b
   unfolding float_two
   float_div e a b r q = rw e q
 
@@ -284,40 +284,37 @@ module _ (op : ℕ) (h : 13 ≤ op) (l : op ≤ 16) where
       (λ i. ap some (nan_div x), (λ i. ap some (nan_mul x), (λ i. ap some (nan_sub x), (λ i. ap some (nan_add x), (λ i. absurd (omega arith), (λ i. absurd (omega arith), (λ i. absurd (omega arith), (λ i. absurd (omega arith), (λ i. absurd (omega arith), (λ i. absurd (omega arith), (λ i. absurd (omega arith), (λ i. absurd (omega arith), (λ i. absurd (omega arith), (λ i. absurd (omega arith), (λ i. absurd (omega arith), (λ i. absurd (omega arith), (λ i. absurd (omega arith), tt))))))))))))))))) op (omega arith) h
 
 module _ (op : ℕ) where
-  module _ (x : Float) (y : FloatValue) where
-    pub right-value : (v : Float) → y ≡ F.Value v → (r : FloatValue) → float_of r ≡ float_two (get_or binary_ops op Or) x v
+  module _ (x : Float) (y : Std.Option FloatValue) where
+    pub right-value : (v : Float) → y ≡ Some (F.Value v) → (r : Std.Option FloatValue) → float_of r ≡ float_two (get_or binary_ops op Or) x v
         → float_of r ≡ float_binary (get_or binary_ops op Or) (some x) (float_of y)
     unfolding float_binary float_of
     right-value v e r q = rw e q
 
-    pub right_nan : y ≡ F.Nan → (r : FloatValue) → ((x : Float) → float_of r ≡ float_two (get_or binary_ops op Or) x nan)
+    pub right_nan : y ≡ Some F.Nan → (r : Std.Option FloatValue) → ((x : Float) → float_of r ≡ float_two (get_or binary_ops op Or) x nan)
         → float_of r ≡ float_binary (get_or binary_ops op Or) (some x) (float_of y)
     unfolding float_binary float_of
     right_nan e r q = rw e (q x)
 
-    pub right_nothing : y ≡ F.Nothing → float_of F.Nothing ≡ float_binary (get_or binary_ops op Or) (some x) (float_of y)
+    pub right_nothing : y ≡ None → float_of None ≡ float_binary (get_or binary_ops op Or) (some x) (float_of y)
     unfolding float_binary float_of
     right_nothing e = rw e
 
-  module _ (x y : FloatValue) where
-    pub left-value : (v : Float) → x ≡ F.Value v → (r : FloatValue) → float_of r ≡ float_binary (get_or binary_ops op Or) (some v) (float_of y)
+  module _ (x y : Std.Option FloatValue) where
+    pub left-value : (v : Float) → x ≡ Some (F.Value v) → (r : Std.Option FloatValue) → float_of r ≡ float_binary (get_or binary_ops op Or) (some v) (float_of y)
         → float_of r ≡ float_binary (get_or binary_ops op Or) (float_of x) (float_of y)
     unfolding float_of
     left-value v e r q = rw e q
 
-    pub left_nothing : x ≡ F.Nothing → float_of F.Nothing ≡ float_binary (get_or binary_ops op Or) (float_of x) (float_of y)
+    pub left_nothing : x ≡ None → float_of None ≡ float_binary (get_or binary_ops op Or) (float_of x) (float_of y)
     unfolding float_binary float_of
     left_nothing e = rw e
 
-    module _ (ex : x ≡ F.Nan) (r : FloatValue) (q : (y : Float) → float_of r ≡ float_two (get_or binary_ops op Or) nan y) where
-      pub nan_value : (v : Float) → y ≡ F.Value v → float_of r ≡ float_binary (get_or binary_ops op Or) (float_of x) (float_of y)
+    module _ (ex : x ≡ Some F.Nan) (r : Std.Option FloatValue) (q : (y : Float) → float_of r ≡ float_two (get_or binary_ops op Or) nan y) where
+      pub nan_some : (w : FloatValue) → y ≡ Some w → float_of r ≡ float_binary (get_or binary_ops op Or) (float_of x) (float_of y)
       unfolding float_binary float_of
-      nan_value v e = rw (ex, e) (q v)
+      nan_some (F.Value v) e = rw (ex, e) (q v)
+      nan_some F.Nan e = rw (ex, e) (q nan)
 
-      pub nan_nan : y ≡ F.Nan → float_of r ≡ float_binary (get_or binary_ops op Or) (float_of x) (float_of y)
-      unfolding float_binary float_of
-      nan_nan e = rw (ex, e) (q nan)
-
-    pub nan_nothing : x ≡ F.Nan → y ≡ F.Nothing → float_of F.Nothing ≡ float_binary (get_or binary_ops op Or) (float_of x) (float_of y)
+    pub nan_nothing : x ≡ Some F.Nan → y ≡ None → float_of None ≡ float_binary (get_or binary_ops op Or) (float_of x) (float_of y)
     unfolding float_binary float_of
     nan_nothing ex e = rw (ex, e)

@@ -2,12 +2,12 @@
 -- By induction on the number of entries. Assumes nothing.
 use mathlib.Core.Path.{◌≡◌, refl, sym, subst}
 use mathlib.Core.Logic.{◌⊎◌, inl, inr, ⊎_elim}
-use mathlib.Core.Bool.{Bool, true, false, beq}
+use mathlib.Core.Bool.{Bool, true, false}
 use mathlib.Core.List.{List, [], ◌∷◌}
 use Prim.Native.Nat.{ℕ, zero, suc, ◌<◌, ◌≤◌}
 use native.Mathlib.Nat.{eq-or-lt_of_le, le_of_suc-le-suc}
 use native.Mathlib.Omega.{arith}
-use lib.Dec.{T, eqb, eqb→eq}
+use lib.Dec.{T}
 use lib.ListN.{length, get_or}
 
 abbrev pub both : Bool → Bool → Bool
@@ -35,12 +35,6 @@ passes (suc n) f t k h = go (eq-or-lt_of_le (le_of_suc-le-suc h)) (passes n f (b
     go (inl e) r = subst (λ (m : ℕ). T (f m)) (sym e) (both_left (f n) (upto n f) t)
     go (inr l) r = r l
 
-beq→eq : (a b : Bool) → T (beq a b) → a ≡ b
-beq→eq true true t = refl
-beq→eq true false t = absurd t
-beq→eq false true t = absurd t
-beq→eq false false t = refl
-
 -- a fact at each number below n, the last first
 abbrev pub each : ℕ → (ℕ → Type 0) → Type 0
 each zero P = Unit {0}
@@ -59,18 +53,6 @@ pub past : {A : Type 0} (xs : List A) (d : A) (k : ℕ) → length xs ≤ k → 
 past [] d k h = refl
 past (x ∷ xs) d zero h = absurd (omega arith)
 past (x ∷ xs) d (suc k) h = past xs d k (omega arith)
-
--- a field of a table of structs
-pub column : {A : Type 0} (field : A → ℕ) (n : ℕ) (rule : ℕ → ℕ) (xs : List A) (d : A) (k : ℕ) → k < n
-    → T (upto n (λ i. eqb (field (get_or xs i d)) (rule i))) → field (get_or xs k d) ≡ rule k
-column field n rule xs d k h t = eqb→eq (field (get_or xs k d)) (rule k) (passes n (λ i. eqb (field (get_or xs i d)) (rule i)) t k h)
-
--- a table of rows of bools
-pub square : (n m : ℕ) (rule : ℕ → ℕ → Bool) (xs : List (List Bool)) (a b : ℕ) → a < n → b < m
-    → T (upto n (λ i. upto m (λ j. beq (get_or (get_or xs i []) j false) (rule i j)))) → get_or (get_or xs a []) b false ≡ rule a b
-square n m rule xs a b ha hb t =
-    beq→eq _ _ (passes m (λ j. beq (get_or (get_or xs a []) j false) (rule a j))
-    (passes n (λ i. upto m (λ j. beq (get_or (get_or xs i []) j false) (rule i j))) t a ha) b hb)
 
 -- below n, or not
 pub below_or_not : (k n : ℕ) → (k < n) ⊎ (n ≤ k)

@@ -5,9 +5,7 @@ use mathlib.Core.Bool.{Bool, true, false}
 use mathlib.Core.List.{List, [], ◌∷◌}
 use Prim.Native.Nat.{ℕ, zero, suc, ◌%◌, ◌<◌, ◌≤◌}
 use native.Mathlib.Omega.{arith}
-use lib.Dec.{eqb}
 use lib.ListN.{get_or}
-use borrow.Author.Tests.{ne_eqb}
 use Rattle.records.specs.Words.{detail_of, word_of, A, B}
 use Rattle.syntax.specs.Syntax.{Ty, TInt, TFloat, TBool, TChar, TByte, TAddress, TArray, TCustom, TNull}
 use Rattle.syntax.specs.Decode.{bit, type_at, text_of, wide_of}
@@ -59,14 +57,20 @@ module _ (tree text : List ℕ) (y : ℕ) where
         (λ m. absurd (omega arith)) (λ m. absurd (omega arith)) (λ m. absurd (omega arith)) (λ m. absurd (omega arith))
         (λ m. absurd (omega arith)) (λ m. absurd (omega arith)) (λ k n m. refl) f h
 
-    pub number_int : f ≡ 1 → true ≡ is_number (type_at tree text y)
+    pub number_form : 1 ≤ f → f < 3 → true ≡ is_number (type_at tree text y)
     unfolding is_number is_int is_float on_int on_float
-    number_int e = rw (type_int e)
+    number_form h l = rw (type-is f ef) (by_form (λ k t. 1 ≤ k → k < 3 → true ≡ is_number t) (λ i j. absurd (omega arith)) (λ i j. refl)
+        (λ i j. refl) (λ i j. absurd (omega arith)) (λ i j. absurd (omega arith)) (λ i j. absurd (omega arith)) (λ i j. absurd (omega arith))
+        (λ i j. absurd (omega arith)) (λ i j. absurd (omega arith)) (λ k g i j. absurd (omega arith)) f h l)
 
-    pub number_float : (f ≡ 1 → ⊥) → eqb f 2 ≡ is_number (type_at tree text y)
+    pub number_none : f < 1 → false ≡ is_number (type_at tree text y)
     unfolding is_number is_int is_float on_int on_float
-    number_float n = rw (type-is f ef) (by_form (λ k t. (k ≡ 1 → ⊥) → eqb k 2 ≡ is_number t) (λ m. refl) (λ m. absurd (m refl))
-        (λ m. refl) (λ m. refl) (λ m. refl) (λ m. refl) (λ m. refl) (λ m. refl) (λ m. refl) (λ k h m. ne_eqb k 2 (λ e. omega arith)) f n)
+    number_none h = let e : f ≡ 0 = omega arith in rw (type-is f ef, e)
+
+    pub number_other : 3 ≤ f → false ≡ is_number (type_at tree text y)
+    unfolding is_number is_int is_float on_int on_float
+    number_other h = rw (type-is f ef) (by_form (λ k t. 3 ≤ k → false ≡ is_number t) (λ i. refl) (λ i. absurd (omega arith))
+        (λ i. absurd (omega arith)) (λ i. refl) (λ i. refl) (λ i. refl) (λ i. refl) (λ i. refl) (λ i. refl) (λ k g i. refl) f h)
 
     module _ (s : Bool) (es : s ≡ bit 16 (detail_of tree y)) where
       pub class_short : f ≡ 1 → s ≡ true → 0 ≡ cast_class (type_at tree text y)
@@ -81,25 +85,22 @@ module _ (tree text : List ℕ) (y : ℕ) where
     unfolding cast_class
     class_address e = rw (type_address e)
 
-    pub class_array : f ≡ 7 → 4 ≡ cast_class (type_at tree text y)
+    pub class_rest : 7 ≤ f → f < 9 → 4 ≡ cast_class (type_at tree text y)
     unfolding cast_class
-    class_array e = rw (type_array e)
-
-    pub class_custom : f ≡ 8 → 4 ≡ cast_class (type_at tree text y)
-    unfolding cast_class
-    class_custom e = rw (type-is f ef, e)
+    class_rest h l = rw (type-is f ef) (by_form (λ k t. 7 ≤ k → k < 9 → 4 ≡ cast_class t) (λ i j. absurd (omega arith)) (λ i j. absurd (omega arith))
+        (λ i j. absurd (omega arith)) (λ i j. absurd (omega arith)) (λ i j. absurd (omega arith)) (λ i j. absurd (omega arith))
+        (λ i j. absurd (omega arith)) (λ i j. refl) (λ i j. refl) (λ k g i j. absurd (omega arith)) f h l)
 
     pub class_none : f < 1 → 3 ≡ cast_class (type_at tree text y)
     unfolding cast_class
     class_none h = let e : f ≡ 0 = omega arith in rw (type-is f ef, e)
 
-    module _ (n₁ : f ≡ 1 → ⊥) (h : 1 ≤ f) where
-      pub class_scalar : f < 6 → 0 ≡ cast_class (type_at tree text y)
-      unfolding cast_class
-      class_scalar l = rw (type-is f ef) (by_form (λ k t. (k ≡ 1 → ⊥) → 1 ≤ k → k < 6 → 0 ≡ cast_class t) (λ m i j. absurd (omega arith))
-          (λ m i j. absurd (m refl)) (λ m i j. refl) (λ m i j. refl) (λ m i j. refl) (λ m i j. refl) (λ m i j. absurd (omega arith))
-          (λ m i j. absurd (omega arith)) (λ m i j. absurd (omega arith)) (λ k g m i j. absurd (omega arith)) f n₁ h l)
+    pub class_null : 9 ≤ f → 3 ≡ cast_class (type_at tree text y)
+    unfolding cast_class
+    class_null h = rw (type_null h)
 
-      pub class_null : (f ≡ 6 → ⊥) → (f ≡ 7 → ⊥) → (f ≡ 8 → ⊥) → 6 ≤ f → 3 ≡ cast_class (type_at tree text y)
-      unfolding cast_class
-      class_null n₆ n₇ n₈ l = rw (type_null (omega arith))
+    pub class_scalar : 2 ≤ f → f < 6 → 0 ≡ cast_class (type_at tree text y)
+    unfolding cast_class
+    class_scalar h l = rw (type-is f ef) (by_form (λ k t. 2 ≤ k → k < 6 → 0 ≡ cast_class t) (λ i j. absurd (omega arith))
+        (λ i j. absurd (omega arith)) (λ i j. refl) (λ i j. refl) (λ i j. refl) (λ i j. refl) (λ i j. absurd (omega arith))
+        (λ i j. absurd (omega arith)) (λ i j. absurd (omega arith)) (λ k g i j. absurd (omega arith)) f h l)

@@ -20,8 +20,8 @@ use Rattle.laws.proofs.Tests.{and_left, and_right}
 use Rattle.records.specs.Words.{kind_of, detail_of, word_of, A, B}
 use Rattle.records.specs.Rules.{is_expr}
 use Rattle.int128.specs.declared.Int128.{Int128}
-use Rattle.int128.specs.declared.Checked.{Checked}
-use Rattle.int128.specs.declared.Checked.TheVariants.{Value, Nothing}
+use Rattle.std.specs.Prelude as Std
+use Rattle.std.specs.Prelude.{Some, None}
 use Rattle.int128.specs.Value.{value_of, checked_of}
 use Rattle.syntax.specs.Syntax.{Expr, EUnary, EBinary, Neg, Or, BinaryOp, unary_ops, binary_ops}
 use Rattle.syntax.specs.Decode.{Node, absent, expr, expr_of, bit, wide_of, child, expr_in, nothing_at, int_at, float_at, str_at, bool_at, name_at, null_at, size_of_at, unary_at, binary_at, call_at, list_at, value_at, type_argument_at, declare_at, init_at, return_at, call_statement_at, if_at, while_at, for_at, break_at, continue_at, variable_at, function_at, kinds, node}
@@ -29,7 +29,6 @@ use Rattle.syntax.proofs.Unfold.{node-is}
 use Rattle.syntax.proofs.Cases.{child_in, child-out, int_case, float_case}
 use Rattle.conversion.specs.Types.{fold_unary, fold_binary, int_value, neg_float, float_binary, float_value, is_null_literal}
 use Rattle.types.specs.declared.float_value.FloatValue.{FloatValue}
-use Rattle.types.specs.declared.float_value.FloatValue.TheVariants as F
 use Rattle.types.specs.Floats.{float_of}
 use Rattle.types.proofs.Tables.{at_each, past, below_or_not}
 
@@ -79,59 +78,59 @@ module _ (tree text : List ℕ) (r k : ℕ) (ek : k ≡ kind_of tree r) where
 
   -- ---- int_value
   pub int_is : k ≡ 2 → (b : ℕ) → b ≡ word_of tree r 0 + word_of tree r 1 * 4294967296 → (w : Int128) → value_of w ≡ to_z w64 b
-      → checked_of (Value w) ≡ int_value (expr_of (node tree text r))
+      → checked_of (Some w) ≡ int_value (expr_of (node tree text r))
   unfolding int_value expr_of wide_of
   int_is q b eb w ew = rw (int_case tree text r (sym ek ∙ q)) (ap some (ew ∙ ap (to_z w64) eb))
 
   module _ (q : k ≡ 9) (a : ℕ) (ea : a ≡ word_of tree r 0) where
-    pub int_unary : a < r → (d : ℕ) → d ≡ detail_of tree r → (x v : Checked) → checked_of x ≡ int_value (expr_of (node tree text a))
+    pub int_unary : a < r → (d : ℕ) → d ≡ detail_of tree r → (x v : Std.Option Int128) → checked_of x ≡ int_value (expr_of (node tree text a))
         → checked_of v ≡ fold_unary (get_or unary_ops d Neg) (checked_of x) → checked_of v ≡ int_value (expr_of (node tree text r))
     unfolding int_value expr_of
     int_unary h d ed x v ex ev = rw (unary_any q, lower A a ea h, ← ed, ← ex) ev
 
-    pub int_unary-out : r ≤ a → checked_of Nothing ≡ int_value (expr_of (node tree text r))
+    pub int_unary-out : r ≤ a → checked_of None ≡ int_value (expr_of (node tree text r))
     unfolding int_value expr_of fold_unary
     int_unary-out h = rw (unary_any q, not_lower A a ea h)
 
-    pub float_unary : a < r → (d : ℕ) → d ≡ detail_of tree r → (x v : FloatValue) → float_of x ≡ float_value (expr_of (node tree text a))
+    pub float_unary : a < r → (d : ℕ) → d ≡ detail_of tree r → (x v : Std.Option FloatValue) → float_of x ≡ float_value (expr_of (node tree text a))
         → float_of v ≡ neg_float (get_or unary_ops d Neg) (float_of x) → float_of v ≡ float_value (expr_of (node tree text r))
     unfolding float_value expr_of
     float_unary h d ed x v ex ev = rw (unary_any q, lower A a ea h, ← ed, ← ex) ev
 
-    pub float_unary-out : r ≤ a → float_of F.Nothing ≡ float_value (expr_of (node tree text r))
+    pub float_unary-out : r ≤ a → float_of None ≡ float_value (expr_of (node tree text r))
     unfolding float_value expr_of neg_float float_of
     float_unary-out h = rw (unary_any q, not_lower A a ea h)
 
   module _ (q : k ≡ 10) (a : ℕ) (ea : a ≡ word_of tree r 0) (b : ℕ) (eb : b ≡ word_of tree r 1) where
-    pub int_binary : a < r → b < r → (d : ℕ) → d ≡ detail_of tree r → (x y v : Checked) → checked_of x ≡ int_value (expr_of (node tree text a))
+    pub int_binary : a < r → b < r → (d : ℕ) → d ≡ detail_of tree r → (x y v : Std.Option Int128) → checked_of x ≡ int_value (expr_of (node tree text a))
         → checked_of y ≡ int_value (expr_of (node tree text b)) → checked_of v ≡ fold_binary (get_or binary_ops d Or) (checked_of x) (checked_of y)
         → checked_of v ≡ int_value (expr_of (node tree text r))
     unfolding int_value expr_of
     int_binary h l d ed x y v ex ey ev = rw (binary_any q, lower A a ea h, lower B b eb l, ← ed, ← ex, ← ey) ev
 
-    pub int_left_out : r ≤ a → checked_of Nothing ≡ int_value (expr_of (node tree text r))
+    pub int_left_out : r ≤ a → checked_of None ≡ int_value (expr_of (node tree text r))
     unfolding int_value expr_of fold_binary
     int_left_out h = rw (binary_any q, not_lower A a ea h)
 
-    pub int_right_out : r ≤ b → checked_of Nothing ≡ int_value (expr_of (node tree text r))
+    pub int_right_out : r ≤ b → checked_of None ≡ int_value (expr_of (node tree text r))
     unfolding int_value expr_of
     int_right_out h = rw (binary_any q, not_lower B b eb h) (sym (two_none (get_or binary_ops (detail_of tree r) Or) (int_value (expr_of (child tree text (node tree text) r A)))))
 
-    pub float_binary_lem : a < r → b < r → (d : ℕ) → d ≡ detail_of tree r → (x y v : FloatValue) → float_of x ≡ float_value (expr_of (node tree text a))
+    pub float_binary_lem : a < r → b < r → (d : ℕ) → d ≡ detail_of tree r → (x y v : Std.Option FloatValue) → float_of x ≡ float_value (expr_of (node tree text a))
         → float_of y ≡ float_value (expr_of (node tree text b)) → float_of v ≡ float_binary (get_or binary_ops d Or) (float_of x) (float_of y)
         → float_of v ≡ float_value (expr_of (node tree text r))
     unfolding float_value expr_of
     float_binary_lem h l d ed x y v ex ey ev = rw (binary_any q, lower A a ea h, lower B b eb l, ← ed, ← ex, ← ey) ev
 
-    pub float_left_out : r ≤ a → float_of F.Nothing ≡ float_value (expr_of (node tree text r))
+    pub float_left_out : r ≤ a → float_of None ≡ float_value (expr_of (node tree text r))
     unfolding float_value expr_of float_binary float_of
     float_left_out h = rw (binary_any q, not_lower A a ea h)
 
-    pub float_right_out : r ≤ b → float_of F.Nothing ≡ float_value (expr_of (node tree text r))
+    pub float_right_out : r ≤ b → float_of None ≡ float_value (expr_of (node tree text r))
     unfolding float_value expr_of float_of
     float_right_out h = rw (binary_any q, not_lower B b eb h) (sym (float_two-none (get_or binary_ops (detail_of tree r) Or) (float_value (expr_of (child tree text (node tree text) r A)))))
 
-  pub int_other : (k ≡ 2 → ⊥) → (k ≡ 9 → ⊥) → (k ≡ 10 → ⊥) → checked_of Nothing ≡ int_value (expr_of (node tree text r))
+  pub int_other : (k ≡ 2 → ⊥) → (k ≡ 9 → ⊥) → (k ≡ 10 → ⊥) → checked_of None ≡ int_value (expr_of (node tree text r))
   unfolding int_value expr_of NoValue
   int_other n₂ n₉ n₁₀ = go (eqb k 3) refl
     where
@@ -140,12 +139,12 @@ module _ (tree text : List ℕ) (r k : ℕ) (ek : k ≡ kind_of tree r) where
       go false e = sym (no_value n₂ (eqb-false k 3 e) n₉ n₁₀).0
 
   -- ---- float_value
-  pub float_is : k ≡ 3 → (b : ℕ) → b ≡ word_of tree r 0 + word_of tree r 1 * 4294967296 → (v : FloatValue) → float_of v ≡ some (Ieee.of_bits binary64 b)
+  pub float_is : k ≡ 3 → (b : ℕ) → b ≡ word_of tree r 0 + word_of tree r 1 * 4294967296 → (v : Std.Option FloatValue) → float_of v ≡ some (Ieee.of_bits binary64 b)
       → float_of v ≡ float_value (expr_of (node tree text r))
   unfolding float_value expr_of wide_of
   float_is q b eb v ev = rw (float_case tree text r (sym ek ∙ q)) (ev ∙ ap (λ (x : ℕ). some (Ieee.of_bits binary64 x)) eb)
 
-  pub float_other : (k ≡ 3 → ⊥) → (k ≡ 9 → ⊥) → (k ≡ 10 → ⊥) → float_of F.Nothing ≡ float_value (expr_of (node tree text r))
+  pub float_other : (k ≡ 3 → ⊥) → (k ≡ 9 → ⊥) → (k ≡ 10 → ⊥) → float_of None ≡ float_value (expr_of (node tree text r))
   unfolding float_value expr_of float_of NoValue
   float_other n₃ n₉ n₁₀ = go (eqb k 2) refl
     where

@@ -1,3 +1,4 @@
+pub mod Casts
 pub mod Fits
 pub mod Floats
 pub mod Operators

@@ -1,14 +1,16 @@
--- The numbers by which the table of operators has their classes. Assumes nothing: these are definitions.
-use Rattle.std.specs.Prelude.{ℕ, Bool, true, false}
-use Rattle.conversion.specs.Expressions.{OperandClass, Bools, Any, Numbers, Integers}
+-- The classes of the table of operators: the definition's in the code's. Assumes nothing: these are definitions.
+use Rattle.std.specs.Prelude.{Bool, true, false}
+use Rattle.conversion.specs.Expressions as Defined
+use Rattle.types.specs.declared.operators.OperandClass.{OperandClass}
+use Rattle.types.specs.declared.operators.ResultClass.{ResultClass}
 
-abbrev pub class_number : OperandClass → ℕ
-class_number Bools = 0
-class_number Any = 1
-class_number Numbers = 2
-class_number Integers = 3
+abbrev pub class_of : Defined.OperandClass → OperandClass
+class_of Defined.Bools = OperandClass.Bools
+class_of Defined.Any = OperandClass.Any
+class_of Defined.Numbers = OperandClass.Numbers
+class_of Defined.Integers = OperandClass.Integers
 
 -- by whether the result is a Bool; else it has the operands' common type
-abbrev pub result_number : Bool → ℕ
-result_number false = 0
-result_number true = 1
+abbrev pub result_of : Bool → ResultClass
+result_of false = ResultClass.Common
+result_of true = ResultClass.Bool

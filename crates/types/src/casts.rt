@@ -1,22 +1,24 @@
 // can_cast: by class of source against class of target.
-ghost use Rattle.std.specs.Prelude.{◌≡◌, List, ℕ, ◌+◌, ◌*◌, ◌≤◌, ◌<◌, length};
+ghost use Rattle.std.specs.Prelude.{◌≡◌, List, ℕ, ◌+◌, ◌*◌, ◌≤◌, length};
 ghost use Rattle.records.specs.Words.{record_bytes};
 ghost use Rattle.syntax.specs.Decode.{type_at};
 ghost use Rattle.conversion.specs.Types.{cast_class, can_cast};
+ghost use Rattle.types.specs.Casts.{number_of};
 
 use crate::form::{form, is_short};
-use records::numbers::{FORM_ADDRESS, FORM_ARRAY, FORM_CUSTOM, FORM_INT};
+use records::numbers::{
+    FORM_ADDRESS, FORM_ARRAY, FORM_BOOL, FORM_BYTE, FORM_CHAR, FORM_CUSTOM, FORM_FLOAT, FORM_INT,
+};
 
 // Classes of types.
-const OTHER_SCALAR: usize = 0;
-
-const LONG_INT: usize = 1;
-
-const ADDRESSES: usize = 2;
-
-const NULLS: usize = 3;
-
-const REST: usize = 4;
+#[derive(Clone, Copy)]
+enum CastClass {
+    OtherScalar,
+    LongInt,
+    Address,
+    Null,
+    Rest,
+}
 
 // A row for each source, an entry for each target, in the order of the classes.
 const CASTS: [[bool; 5]; 5] = [
@@ -27,33 +29,24 @@ const CASTS: [[bool; 5]; 5] = [
     [false, false, false, false, false],
 ];
 
-fn cast_class(tree: &[u8], ty: usize) -> usize
+fn cast_class(tree: &[u8], ty: usize) -> CastClass
     requires { ty * record_bytes + record_bytes ≤ length tree.now }
-    ensures { (result < 5) × ((text : List ℕ) → result ≡ cast_class (type_at tree.now text ty)) }
+    ensures { (text : List ℕ) → number_of result ≡ cast_class (type_at tree.now text ty) }
 {
-    let f = form(tree, ty);
-    if f == FORM_INT {
-        if is_short(tree, ty) {
-            return OTHER_SCALAR;
-        }
-        return LONG_INT;
+    match form(tree, ty) {
+        FORM_INT if !is_short(tree, ty) => CastClass::LongInt,
+        FORM_INT | FORM_FLOAT | FORM_BOOL | FORM_CHAR | FORM_BYTE => CastClass::OtherScalar,
+        FORM_ADDRESS => CastClass::Address,
+        FORM_ARRAY | FORM_CUSTOM => CastClass::Rest,
+        _ => CastClass::Null,
     }
-    if f == FORM_ADDRESS {
-        return ADDRESSES;
-    }
-    if f == FORM_ARRAY {
-        return REST;
-    }
-    if f == FORM_CUSTOM {
-        return REST;
-    }
-    if f < FORM_INT {
-        return NULLS;
-    }
-    if f < FORM_ADDRESS {
-        return OTHER_SCALAR;
-    }
-    NULLS
+}
+
+// Which row of the table, and which entry.
+fn index_of(class: CastClass) -> usize
+    ensures { result ≡ number_of class }
+{
+    class as usize
 }
 
 pub fn can_cast(tree: &[u8], from: usize, to: usize) -> bool
@@ -64,7 +57,7 @@ pub fn can_cast(tree: &[u8], from: usize, to: usize) -> bool
     if from == to {
         return true;
     }
-    let a = cast_class(tree, from);
-    let b = cast_class(tree, to);
+    let a = index_of(cast_class(tree, from));
+    let b = index_of(cast_class(tree, to));
     CASTS[a][b]
 }

@@ -11,7 +11,7 @@ ghost use Rattle.types.specs.Fits.{IsType, in_range_of, fits_at, into_at, litera
 use crate::float_value::{FloatValue, float_fits, float_value};
 use crate::form::{form, is_short, is_unsigned};
 use crate::int_value::int_value;
-use int128::{Checked, int_fits};
+use int128::int_fits;
 use records::numbers::{FORM_ADDRESS, FORM_FLOAT, FORM_INT, FORM_NULL, KIND_NULL, NULL_TYPE};
 use records::words::{WORD_A, kind, reference};
 
@@ -21,8 +21,8 @@ fn int_constant_fits(tree: &[u8], e: usize, expected: usize) -> bool
     ensures { (text : List ℕ) → result ≡ some_and (int_value (expr_of (node tree.now text e))) (in_range_of tree.now expected) }
 {
     match int_value(tree, e) {
-        Checked::Value(v) => int_fits(v, is_short(tree, expected), is_unsigned(tree, expected)),
-        Checked::Nothing => false,
+        Some(v) => int_fits(v, is_short(tree, expected), is_unsigned(tree, expected)),
+        None => false,
     }
 }
 
@@ -32,9 +32,9 @@ fn float_constant_fits(tree: &[u8], e: usize, expected: usize) -> bool
     ensures { (text : List ℕ) → result ≡ some_and (float_value (expr_of (node tree.now text e))) (λ v. float_fits v (bit 16 (detail_of tree.now expected))) }
 {
     match float_value(tree, e) {
-        FloatValue::Value(v) => float_fits(v, is_short(tree, expected)),
-        FloatValue::Nan => false,
-        FloatValue::Nothing => false,
+        Some(FloatValue::Value(v)) => float_fits(v, is_short(tree, expected)),
+        Some(FloatValue::Nan) => false,
+        None => false,
     }
 }
 
@@ -99,10 +99,7 @@ fn is_int_constant(tree: &[u8], e: usize) -> bool
     requires { e * record_bytes + record_bytes ≤ length tree.now }
     ensures { (text : List ℕ) → result ≡ is_some (int_value (expr_of (node tree.now text e))) }
 {
-    match int_value(tree, e) {
-        Checked::Value(_) => true,
-        Checked::Nothing => false,
-    }
+    int_value(tree, e).is_some()
 }
 
 // A NaN is a literal too.
@@ -110,11 +107,7 @@ fn is_float_constant(tree: &[u8], e: usize) -> bool
     requires { e * record_bytes + record_bytes ≤ length tree.now }
     ensures { (text : List ℕ) → result ≡ is_some (float_value (expr_of (node tree.now text e))) }
 {
-    match float_value(tree, e) {
-        FloatValue::Value(_) => true,
-        FloatValue::Nan => true,
-        FloatValue::Nothing => false,
-    }
+    float_value(tree, e).is_some()
 }
 
 // A constant of the form that is expected.

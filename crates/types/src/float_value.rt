@@ -13,56 +13,53 @@ use crate::form::two_words;
 use records::numbers::{ADD, BIT_NOT, DIV, KIND_BINARY, KIND_FLOAT, KIND_UNARY, MUL, NOT, SUB};
 use records::words::{WORD_A, WORD_B, detail, kind, nan_bits, reference};
 
-// A number or an infinity, a NaN, or nothing where the expression is no float constant. A NaN stands apart because its bits are not
-// an f64 that code may make.
+// A number or an infinity, or a NaN. A NaN stands apart because its bits are not an f64 that code may make.
 #[derive(Clone, Copy)]
 pub enum FloatValue {
     Value(f64),
     Nan,
-    Nothing,
 }
 
 // The largest f32: bits 47EFFFFFE0000000.
 const F32_MAX: f64 = 340282346638528859811704183484516925440.0;
 
-fn from_bits(b: u64) -> FloatValue
+fn from_bits(b: u64) -> Option<FloatValue>
     ensures { float_of result ≡ some (of_bits binary64 b) }
 {
     if nan_bits(b) {
-        return FloatValue::Nan;
+        return Some(FloatValue::Nan);
     }
-    FloatValue::Value(f64::from_bits(b))
+    Some(FloatValue::Value(f64::from_bits(b)))
 }
 
 // What an operation gave, with a NaN set apart.
-fn nan_apart(x: f64) -> FloatValue
+fn nan_apart(x: f64) -> Option<FloatValue>
     ensures { float_of result ≡ some x }
 {
     if x == x {
-        return FloatValue::Value(x);
+        return Some(FloatValue::Value(x));
     }
-    FloatValue::Nan
+    Some(FloatValue::Nan)
 }
 
 // Neg is the only one of the three for floats.
-fn fold_neg(op: u8, value: FloatValue) -> FloatValue
+fn fold_neg(op: u8, value: Option<FloatValue>) -> Option<FloatValue>
     ensures { float_of result ≡ neg_float (get_or unary_ops op Neg) (float_of value) }
 {
     if op == BIT_NOT {
-        return FloatValue::Nothing;
+        return None;
     }
     if op == NOT {
-        return FloatValue::Nothing;
+        return None;
     }
-    match value {
-        FloatValue::Value(x) => FloatValue::Value(-x),
-        FloatValue::Nan => FloatValue::Nan,
-        FloatValue::Nothing => FloatValue::Nothing,
+    match value? {
+        FloatValue::Value(x) => Some(FloatValue::Value(-x)),
+        FloatValue::Nan => Some(FloatValue::Nan),
     }
 }
 
 // Add, Sub, Mul, Div.
-fn fold_two(op: u8, left: f64, right: f64) -> FloatValue
+fn fold_two(op: u8, left: f64, right: f64) -> Option<FloatValue>
     ensures { float_of result ≡ float_two (get_or binary_ops op Or) left right }
 {
     if op == ADD {
@@ -77,48 +74,45 @@ fn fold_two(op: u8, left: f64, right: f64) -> FloatValue
     if op == DIV {
         return nan_apart(left / right);
     }
-    FloatValue::Nothing
+    None
 }
 
 // A NaN on either side gives a NaN.
-fn fold_nan(op: u8) -> FloatValue
+fn fold_nan(op: u8) -> Option<FloatValue>
     ensures left { (y : Float) → float_of result ≡ float_two (get_or binary_ops op Or) nan y }
     ensures right { (x : Float) → float_of result ≡ float_two (get_or binary_ops op Or) x nan }
 {
     if ADD <= op {
         if op <= DIV {
-            return FloatValue::Nan;
+            return Some(FloatValue::Nan);
         }
     }
-    FloatValue::Nothing
+    None
 }
 
-fn fold_right(op: u8, left: f64, right: FloatValue) -> FloatValue
+fn fold_right(op: u8, left: f64, right: Option<FloatValue>) -> Option<FloatValue>
     ensures { float_of result ≡ float_binary (get_or binary_ops op Or) (some left) (float_of right) }
 {
-    match right {
+    match right? {
         FloatValue::Value(y) => fold_two(op, left, y),
         FloatValue::Nan => fold_nan(op),
-        FloatValue::Nothing => FloatValue::Nothing,
     }
 }
 
-fn fold_binary(op: u8, left: FloatValue, right: FloatValue) -> FloatValue
+fn fold_binary(op: u8, left: Option<FloatValue>, right: Option<FloatValue>) -> Option<FloatValue>
     ensures { float_of result ≡ float_binary (get_or binary_ops op Or) (float_of left) (float_of right) }
 {
-    match left {
+    match left? {
         FloatValue::Value(x) => fold_right(op, x, right),
-        FloatValue::Nan => match right {
-            FloatValue::Value(_) => fold_nan(op),
-            FloatValue::Nan => fold_nan(op),
-            FloatValue::Nothing => FloatValue::Nothing,
-        },
-        FloatValue::Nothing => FloatValue::Nothing,
+        FloatValue::Nan => {
+            right?;
+            fold_nan(op)
+        }
     }
 }
 
 // The value of a Float, or of a Unary or Binary of such.
-pub fn float_value(tree: &[u8], r: usize) -> FloatValue
+pub fn float_value(tree: &[u8], r: usize) -> Option<FloatValue>
     requires { r * record_bytes + record_bytes ≤ length tree.now }
     ensures { (text : List ℕ) → float_of result ≡ float_value (expr_of (node tree.now text r)) }
 {
@@ -131,7 +125,7 @@ pub fn float_value(tree: &[u8], r: usize) -> FloatValue
         if a < r {
             return fold_neg(detail(tree, r), float_value(tree, a));
         }
-        return FloatValue::Nothing;
+        return None;
     }
     if k == KIND_BINARY {
         let a = reference(tree, r, WORD_A);
@@ -141,9 +135,9 @@ pub fn float_value(tree: &[u8], r: usize) -> FloatValue
                 return fold_binary(detail(tree, r), float_value(tree, a), float_value(tree, b));
             }
         }
-        return FloatValue::Nothing;
+        return None;
     }
-    FloatValue::Nothing
+    None
 }
 
 // x - x is a number where x is finite.

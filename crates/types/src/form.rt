@@ -35,17 +35,7 @@ pub fn is_number(tree: &[u8], ty: usize) -> bool
     requires { ty * record_bytes + record_bytes ≤ length tree.now }
     ensures { (text : List ℕ) → result ≡ is_number (type_at tree.now text ty) }
 {
-    let f = form(tree, ty);
-    if f == FORM_INT {
-        return true;
-    }
-    f == FORM_FLOAT
-}
-
-fn wide_word(x: u32) -> u64
-    ensures { result ≡ x }
-{
-    x as u64
+    matches!(form(tree, ty), FORM_INT | FORM_FLOAT)
 }
 
 // The 64 bits of words k and k + 1, low and high.
@@ -54,5 +44,5 @@ pub fn two_words(tree: &[u8], r: usize, k: usize) -> u64
     requires k_bound { k ≤ 3 }
     ensures { result ≡ word_of tree.now r k + word_of tree.now r (k + 1) * 4294967296 }
 {
-    wide_word(word(tree, r, k)) + wide_word(word(tree, r, k + 1)) * 4294967296
+    u64::from(word(tree, r, k)) + u64::from(word(tree, r, k + 1)) * 4294967296
 }

@@ -8,28 +8,24 @@ ghost use Rattle.syntax.specs.Decode.{expr_of, node};
 ghost use Rattle.conversion.specs.Types.{fold_unary, shl_kept, fold_two, fold_binary, int_value};
 
 use crate::form::two_words;
-use int128::{Checked, Int128};
+use int128::Int128;
 use records::numbers::{
     ADD, BIT_AND, BIT_NOT, BIT_OR, BIT_XOR, DIV, KIND_BINARY, KIND_INT, KIND_UNARY, MUL, NOT, REM,
     SHL, SHR, SUB,
 };
 use records::words::{WORD_A, WORD_B, detail, kind, reference};
 
-fn fold_unary(op: u8, value: Checked) -> Checked
+fn fold_unary(op: u8, value: Option<Int128>) -> Option<Int128>
     ensures { checked_of result ≡ fold_unary (get_or unary_ops op Neg) (checked_of value) }
 {
-    match value {
-        Checked::Nothing => Checked::Nothing,
-        Checked::Value(v) => {
-            if op == BIT_NOT {
-                return Checked::Value(v.not());
-            }
-            if op == NOT {
-                return Checked::Nothing;
-            }
-            v.checked_neg()
-        }
+    let v = value?;
+    if op == BIT_NOT {
+        return Some(!v);
     }
+    if op == NOT {
+        return None;
+    }
+    v.checked_neg()
 }
 
 // BitOr, BitXor, BitAnd.
@@ -38,32 +34,28 @@ fn fold_bits(op: u8, left: Int128, right: Int128) -> Int128
     ensures { some (value_of result) ≡ fold_two (get_or binary_ops op Or) (value_of left) (value_of right) }
 {
     if op == BIT_OR {
-        return left.bitor(right);
+        return left | right;
     }
     if op == BIT_XOR {
-        return left.bitxor(right);
+        return left ^ right;
     }
-    left.bitand(right)
+    left & right
 }
 
 // The shifted value, where taken back by the same count it gives the old one: a shift that loses bits folds to nothing.
-fn fold_shl(left: Int128, right: Int128) -> Checked
+fn fold_shl(left: Int128, right: Int128) -> Option<Int128>
     ensures { checked_of result ≡ shl_kept (value_of left) (value_of right) }
 {
-    let Checked::Value(v) = left.checked_shl_by(right) else {
-        return Checked::Nothing;
-    };
-    let Checked::Value(back) = v.checked_shr_by(right) else {
-        return Checked::Nothing;
-    };
-    if back.eq(left) {
-        return Checked::Value(v);
+    let v = left.checked_shl_by(right)?;
+    let back = v.checked_shr_by(right)?;
+    if back == left {
+        return Some(v);
     }
-    Checked::Nothing
+    None
 }
 
 // From Shl on: Shl, Shr, Add, Sub, Mul, Div, Rem.
-fn fold_checked(op: u8, left: Int128, right: Int128) -> Checked
+fn fold_checked(op: u8, left: Int128, right: Int128) -> Option<Int128>
     requires { binary_number Shl ≤ op }
     ensures { checked_of result ≡ fold_two (get_or binary_ops op Or) (value_of left) (value_of right) }
 {
@@ -88,51 +80,45 @@ fn fold_checked(op: u8, left: Int128, right: Int128) -> Checked
     if op == REM {
         return left.checked_rem(right);
     }
-    Checked::Nothing
+    None
 }
 
-fn fold_two(op: u8, left: Int128, right: Int128) -> Checked
+fn fold_two(op: u8, left: Int128, right: Int128) -> Option<Int128>
     ensures { checked_of result ≡ fold_two (get_or binary_ops op Or) (value_of left) (value_of right) }
 {
     if SHL <= op {
         return fold_checked(op, left, right);
     }
     if BIT_AND < op {
-        return Checked::Nothing;
+        return None;
     }
     if BIT_OR <= op {
-        return Checked::Value(fold_bits(op, left, right));
+        return Some(fold_bits(op, left, right));
     }
-    Checked::Nothing
+    None
 }
 
-fn fold_binary(op: u8, left: Checked, right: Checked) -> Checked
+fn fold_binary(op: u8, left: Option<Int128>, right: Option<Int128>) -> Option<Int128>
     ensures { checked_of result ≡ fold_binary (get_or binary_ops op Or) (checked_of left) (checked_of right) }
 {
-    match left {
-        Checked::Nothing => Checked::Nothing,
-        Checked::Value(x) => match right {
-            Checked::Nothing => Checked::Nothing,
-            Checked::Value(y) => fold_two(op, x, y),
-        },
-    }
+    fold_two(op, left?, right?)
 }
 
 // The value of an Int, or of a Unary or Binary of such.
-pub fn int_value(tree: &[u8], r: usize) -> Checked
+pub fn int_value(tree: &[u8], r: usize) -> Option<Int128>
     requires { r * record_bytes + record_bytes ≤ length tree.now }
     ensures { (text : List ℕ) → checked_of result ≡ int_value (expr_of (node tree.now text r)) }
 {
     let k = kind(tree, r);
     if k == KIND_INT {
-        return Checked::Value(Int128::from_i64_bits(two_words(tree, r, WORD_A)));
+        return Some(Int128::from_i64_bits(two_words(tree, r, WORD_A)));
     }
     if k == KIND_UNARY {
         let a = reference(tree, r, WORD_A);
         if a < r {
             return fold_unary(detail(tree, r), int_value(tree, a));
         }
-        return Checked::Nothing;
+        return None;
     }
     if k == KIND_BINARY {
         let a = reference(tree, r, WORD_A);
@@ -142,7 +128,7 @@ pub fn int_value(tree: &[u8], r: usize) -> Checked
                 return fold_binary(detail(tree, r), int_value(tree, a), int_value(tree, b));
             }
         }
-        return Checked::Nothing;
+        return None;
     }
-    Checked::Nothing
+    None
 }

@@ -2,107 +2,79 @@
 ghost use Rattle.std.specs.Prelude.{◌≡◌, ◌<◌, get_or};
 ghost use Rattle.syntax.specs.Syntax.{binary_ops, Or};
 ghost use Rattle.conversion.specs.Expressions.{operand_class, gives_bool};
-ghost use Rattle.types.specs.Operators.{class_number, result_number};
+ghost use Rattle.types.specs.Operators.{class_of, result_of};
 
-// Classes of operands.
-pub const BOOLS: u8 = 0;
+#[derive(Clone, Copy, Debug, PartialEq, Eq)]
+pub enum OperandClass {
+    Bools,
+    Any,
+    Numbers,
+    Integers,
+}
 
-pub const ANY: u8 = 1;
-
-pub const NUMBERS: u8 = 2;
-
-pub const INTEGERS: u8 = 3;
-
-// Classes of results: the operands' common type, or Bool.
-pub const COMMON: u8 = 0;
-
-pub const BOOL: u8 = 1;
+// The operands' common type, or Bool.
+#[derive(Clone, Copy, Debug, PartialEq, Eq)]
+pub enum ResultClass {
+    Common,
+    Bool,
+}
 
 #[derive(Clone, Copy)]
 pub struct Operator {
-    pub operands: u8,
-    pub result: u8,
+    pub operands: OperandClass,
+    pub result: ResultClass,
 }
 
-// Or, And, BitOr, BitXor, BitAnd, Eq, NotEq, Lt, Le, Gt, Ge, Shl, Shr, Add, Sub, Mul, Div, Rem.
+// What several operators share.
+const LOGIC: Operator = Operator {
+    operands: OperandClass::Bools,
+    result: ResultClass::Bool,
+};
+
+const EQUALITY: Operator = Operator {
+    operands: OperandClass::Any,
+    result: ResultClass::Bool,
+};
+
+const ORDER: Operator = Operator {
+    operands: OperandClass::Numbers,
+    result: ResultClass::Bool,
+};
+
+const ARITHMETIC: Operator = Operator {
+    operands: OperandClass::Numbers,
+    result: ResultClass::Common,
+};
+
+const WHOLE: Operator = Operator {
+    operands: OperandClass::Integers,
+    result: ResultClass::Common,
+};
+
 const OPERATORS: [Operator; 18] = [
-    Operator {
-        operands: BOOLS,
-        result: BOOL,
-    },
-    Operator {
-        operands: BOOLS,
-        result: BOOL,
-    },
-    Operator {
-        operands: INTEGERS,
-        result: COMMON,
-    },
-    Operator {
-        operands: INTEGERS,
-        result: COMMON,
-    },
-    Operator {
-        operands: INTEGERS,
-        result: COMMON,
-    },
-    Operator {
-        operands: ANY,
-        result: BOOL,
-    },
-    Operator {
-        operands: ANY,
-        result: BOOL,
-    },
-    Operator {
-        operands: NUMBERS,
-        result: BOOL,
-    },
-    Operator {
-        operands: NUMBERS,
-        result: BOOL,
-    },
-    Operator {
-        operands: NUMBERS,
-        result: BOOL,
-    },
-    Operator {
-        operands: NUMBERS,
-        result: BOOL,
-    },
-    Operator {
-        operands: INTEGERS,
-        result: COMMON,
-    },
-    Operator {
-        operands: INTEGERS,
-        result: COMMON,
-    },
-    Operator {
-        operands: NUMBERS,
-        result: COMMON,
-    },
-    Operator {
-        operands: NUMBERS,
-        result: COMMON,
-    },
-    Operator {
-        operands: NUMBERS,
-        result: COMMON,
-    },
-    Operator {
-        operands: NUMBERS,
-        result: COMMON,
-    },
-    Operator {
-        operands: INTEGERS,
-        result: COMMON,
-    },
+    LOGIC, // Or
+    LOGIC, // And
+    WHOLE, // BitOr
+    WHOLE, // BitXor
+    WHOLE, // BitAnd
+    EQUALITY, // Eq
+    EQUALITY, // NotEq
+    ORDER, // Lt
+    ORDER, // Le
+    ORDER, // Gt
+    ORDER, // Ge
+    WHOLE, // Shl
+    WHOLE, // Shr
+    ARITHMETIC, // Add
+    ARITHMETIC, // Sub
+    ARITHMETIC, // Mul
+    ARITHMETIC, // Div
+    WHOLE, // Rem
 ];
 
 pub fn operator_of(op: usize) -> Operator
     requires { op < 18 }
-    ensures { (result.operands ≡ class_number (operand_class (get_or binary_ops op Or))) × (result.result ≡ result_number (gives_bool (get_or binary_ops op Or))) }
+    ensures { (result.operands ≡ class_of (operand_class (get_or binary_ops op Or))) × (result.result ≡ result_of (gives_bool (get_or binary_ops op Or))) }
 {
     OPERATORS[op]
 }

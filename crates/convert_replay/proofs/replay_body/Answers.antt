@@ -3,7 +3,6 @@
 use mathlib.Core.Path.{sym}
 use native.Mathlib.Omega.{arith}
 use lib.Seq.{length-take-le}
-use borrow.Author.Rules.{rules}
 use Rattle.convert_replay.proofs.replay_body.Goals as goal
 
 pub slice_bounds-replay_case-end : goal.slice_bounds-replay_case-end

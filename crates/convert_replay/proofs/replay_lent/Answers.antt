@@ -2,7 +2,6 @@
 -- By `search rules`, and since the call keeps the lengths. Assumes nothing.
 use Prim.Native.Nat.{◌<◌}
 use native.Mathlib.Omega.{arith}
-use borrow.Author.Rules.{rules}
 use Rattle.convert_replay.proofs.replay_lent.Goals as goal
 
 below_0 : 0 < 7

@@ -10,14 +10,14 @@ pub returns-then-has_place : goal.returns-then-has_place
 returns-then-has_place c = let start = c in
     let b = buffers c.args.instructions.now c.args.variables.now c.args.labels.now c.args.functions.now c.args.strings.now c.args.floats.now c.args.scratch.now in
     let six = c in
-    let first = first-cleared _ _ b _ _ (rows_told _ _ _ (lengths_of b) _ _ _ c.lengths_of-l.ensures (c.judge_rows-judged.ensures.value, c.judge_rows-judged.ensures.judge_keeps)) _ (c.has_place.ensures ∙ ap placed (sym c.in-Refused.is)) c.if-has_place.true _ _ _ _ _ _ _ (c.clear_outputs.ensures.instructions, c.clear_outputs.ensures.variables, c.clear_outputs.ensures.labels, c.clear_outputs.ensures.functions, c.clear_outputs.ensures.strings, c.clear_outputs.ensures.floats) c.clear.ensures in
-    judge_refuses _ _ b _ _ first _ (λ i. (c.shared_slice_known-1.given i).fits) _ c.in-Refused.is
+    let first = first-cleared _ _ b _ _ (rows_told _ _ _ (lengths_of b) _ _ _ c.lengths_of-l.ensures (c.judge_rows-judged.ensures.value, c.judge_rows-judged.ensures.judge_keeps)) _ (c.has_place.ensures ∙ ap placed (sym c.in-Err.is)) c.if-has_place.true _ _ _ _ _ _ _ (c.clear_outputs.ensures.instructions, c.clear_outputs.ensures.variables, c.clear_outputs.ensures.labels, c.clear_outputs.ensures.functions, c.clear_outputs.ensures.strings, c.clear_outputs.ensures.floats) c.clear.ensures in
+    judge_refuses _ _ b _ _ first _ (λ i. (c.shared_slice_known-1.given i).fits) _ c.in-Err.is
 
-pub returns-in-Refused : goal.returns-in-Refused
-returns-in-Refused c = let start = c in
+pub returns-else-has_place : goal.returns-else-has_place
+returns-else-has_place c = let start = c in
     let b = buffers c.args.instructions.now c.args.variables.now c.args.labels.now c.args.functions.now c.args.strings.now c.args.floats.now c.args.scratch.now in
-    let first = first-kept _ _ b _ _ (rows_told _ _ _ (lengths_of b) _ _ _ c.lengths_of-l.ensures (c.judge_rows-judged.ensures.value, c.judge_rows-judged.ensures.judge_keeps)) _ (c.has_place.ensures ∙ ap placed (sym c.in-Refused.is)) c.if-has_place.false in
-    judge_refuses _ _ b _ _ first _ (λ i. (c.shared_slice_known-1.given i).fits) _ c.in-Refused.is
+    let first = first-kept _ _ b _ _ (rows_told _ _ _ (lengths_of b) _ _ _ c.lengths_of-l.ensures (c.judge_rows-judged.ensures.value, c.judge_rows-judged.ensures.judge_keeps)) _ (c.has_place.ensures ∙ ap placed (sym c.in-Err.is)) c.if-has_place.false in
+    judge_refuses _ _ b _ _ first _ (λ i. (c.shared_slice_known-1.given i).fits) _ c.in-Err.is
 
 pub convert_good-requires : goal.convert_good-requires
 convert_good-requires c = let start = c in

@@ -3,7 +3,6 @@
 use mathlib.Core.Path.{◌∙◌, ap}
 use mathlib.Core.Option.{some}
 use Rattle.int128.specs.Value.{checked_of}
-use borrow.Author.Rules.{rules}
 use Rattle.int128_c.proofs.int128_c_and.Goals as goal
 
 pub returns : goal.returns

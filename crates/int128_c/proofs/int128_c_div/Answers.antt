@@ -2,7 +2,6 @@
 -- What the two ensure.
 use mathlib.Core.Path.{◌∙◌, ap}
 use Rattle.int128.specs.Value.{checked_of}
-use borrow.Author.Rules.{rules}
 use Rattle.int128_c.proofs.int128_c_div.Goals as goal
 
 pub returns : goal.returns

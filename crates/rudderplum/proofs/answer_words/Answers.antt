@@ -3,10 +3,10 @@ use mathlib.Core.Path.{sym, ap, ◌∙◌}
 use Rattle.rudderplum.specs.Boundary.{judged_words}
 use Rattle.rudderplum.proofs.answer_words.Goals as goal
 
-pub returns-in-Accepted : goal.returns-in-Accepted
+pub returns-in-Ok : goal.returns-in-Ok
 unfolding judged_words
-returns-in-Accepted c = sym (ap (judged_words _) c.in-Accepted.is)
+returns-in-Ok c = sym (ap (judged_words _) c.in-Ok.is)
 
-pub returns-in-Refused : goal.returns-in-Refused
+pub returns-in-Err : goal.returns-in-Err
 unfolding judged_words
-returns-in-Refused c = c.words_of.ensures ∙ sym (ap (judged_words _) c.in-Refused.is)
+returns-in-Err c = c.words_of.ensures ∙ sym (ap (judged_words _) c.in-Err.is)

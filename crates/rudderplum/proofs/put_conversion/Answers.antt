@@ -3,8 +3,8 @@
 use Rattle.rudderplum.proofs.Calls.{converted_put, refused_put}
 use Rattle.rudderplum.proofs.put_conversion.Goals as goal
 
-pub returns-in-Converted : goal.returns-in-Converted
-returns-in-Converted c = converted_put _ _ _ _ _ c.in-Converted.is c.put_counts.ensures
+pub returns-in-Ok : goal.returns-in-Ok
+returns-in-Ok c = converted_put _ _ _ _ _ c.in-Ok.is c.put_counts.ensures
 
-pub returns-in-Refused : goal.returns-in-Refused
-returns-in-Refused c = refused_put _ _ _ _ _ _ c.in-Refused.is c.words_of.ensures c.put_refusal.ensures
+pub returns-in-Err : goal.returns-in-Err
+returns-in-Err c = refused_put _ _ _ _ _ _ c.in-Err.is c.words_of.ensures c.put_refusal.ensures

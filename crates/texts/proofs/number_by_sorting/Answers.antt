@@ -17,26 +17,17 @@ pub overflow_add-n : goal.overflow_add-n
 overflow_add-n c = omega (arith, c.requires.good.0.few)
 
 pub sort_records-requires : goal.sort_records-requires
-sort_records-requires c = let start = c in
-    let entries = c in
-    (collected_places _ _ _ _ c.collect_texts-m.ensures.collected (omega (arith, c.requires.good.1, c.roll_texts.ensures.kept.long)) c.collect_texts-m.ensures.only_there, c.collect_texts-m.ensures.collected.rises)
+sort_records-requires c = (collected_places _ _ _ _ c.collect_texts-m.ensures.collected (omega (arith, c.requires.good.1, c.roll_texts.ensures.kept.long)) c.collect_texts-m.ensures.only_there, c.collect_texts-m.ensures.collected.rises)
 
 pub overflow_mul-n-2 : goal.overflow_mul-n-2
 overflow_mul-n-2 c = omega (arith, c.requires.good.0.few)
 
 pub number_sorted-requires : goal.number_sorted-requires
-number_sorted-requires c = let start = c in
-    let entries = c in
-    let order = c in
-    (collected_sorted _ _ _ _ c.collect_texts-m.ensures.collected _ (omega (arith, c.requires.good.1, c.roll_texts.ensures.kept.long)) c.collect_texts-m.ensures.only_there _ c.sort_records.ensures.arranged c.sort_records.ensures.only_both, collected_apart _ _ _ _ c.collect_texts-m.ensures.collected _ (omega (arith, c.requires.good.1, c.roll_texts.ensures.kept.long)) c.collect_texts-m.ensures.only_there _ c.sort_records.ensures.arranged c.sort_records.ensures.only_both)
+number_sorted-requires c = (collected_sorted _ _ _ _ c.collect_texts-m.ensures.collected _ (omega (arith, c.requires.good.1, c.roll_texts.ensures.kept.long)) c.collect_texts-m.ensures.only_there _ c.sort_records.ensures.arranged c.sort_records.ensures.only_both, collected_apart _ _ _ _ c.collect_texts-m.ensures.collected _ (omega (arith, c.requires.good.1, c.roll_texts.ensures.kept.long)) c.collect_texts-m.ensures.only_there _ c.sort_records.ensures.arranged c.sort_records.ensures.only_both)
 
 pub shape_of-scratch : goal.shape_of-scratch
 shape_of-scratch c = (sorted-kept _ _ _ _ c.collect_texts-m.ensures.collected _ (omega (arith, c.requires.good.1, c.roll_texts.ensures.kept.long)) c.collect_texts-m.ensures.only_there _ c.sort_records.ensures.arranged c.sort_records.ensures.only_both _ c.number_sorted.ensures _ c.roll_texts.ensures.kept).long
 
 pub returns : goal.returns
-returns c = let start = c in
-    let rolled = c in
-    let entries = c in
-    let order = c in
-    let numbers = c.number_sorted.ensures in
+returns c = let numbers = c.number_sorted.ensures in
     (sorted-numbered _ _ _ _ c.collect_texts-m.ensures.collected _ (omega (arith, c.requires.good.1, c.roll_texts.ensures.kept.long)) c.collect_texts-m.ensures.only_there _ c.sort_records.ensures.arranged c.sort_records.ensures.only_both _ numbers c.roll_texts.ensures.rolled, sorted-kept _ _ _ _ c.collect_texts-m.ensures.collected _ (omega (arith, c.requires.good.1, c.roll_texts.ensures.kept.long)) c.collect_texts-m.ensures.only_there _ c.sort_records.ensures.arranged c.sort_records.ensures.only_both _ numbers _ c.roll_texts.ensures.kept)

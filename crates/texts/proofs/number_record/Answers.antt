@@ -16,8 +16,7 @@ pub roll_read-rolled-requires : goal.roll_read-rolled-requires
 roll_read-rolled-requires c = (c.requires.good.0.few, c.read_long-next.ensures.0.sampled)
 
 pub number_text-walk-requires : goal.number_text-walk-requires
-number_text-walk-requires c = let start = c in
-    let has = own-told _ _ _ _ _ c.kind.ensures c.has_text.ensures c.if-not-has_text.false in
+number_text-walk-requires c = let has = own-told _ _ _ _ _ c.kind.ensures c.has_text.ensures c.if-not-has_text.false in
     let only = c.read_long-next.ensures.1 in
     let rolled = roll_told _ _ _ _ _ _ c.word-offset.ensures c.word-len.ensures c.roll_read-rolled.ensures.0 in
     let passed = passed-sampled _ _ _ only _ _ _ refl (omega (arith, c.requires.r_bound.0)) c.requires.r_bound.1 in
@@ -49,8 +48,7 @@ pub put_word-requires-2 : goal.put_word-requires-2
 put_word-requires-2 c = omega (arith, c.requires.good.0.few, c.requires.r_bound.0, c.requires.good.1, c.read_long-next.ensures.1.long, c.number_text-walk.ensures.1.long, put_long _ _ _ _ (omega (arith, c.requires.good.0.few, c.requires.r_bound.0, c.requires.good.1, c.read_long-next.ensures.1.long, c.number_text-walk.ensures.1.long)) c.put_word.ensures)
 
 pub returns : goal.returns
-returns c = let start = c in
-    let has = own-told _ _ _ _ _ c.kind.ensures c.has_text.ensures c.if-not-has_text.false in
+returns c = let has = own-told _ _ _ _ _ c.kind.ensures c.has_text.ensures c.if-not-has_text.false in
     let only = c.read_long-next.ensures.1 in
     let rolled = roll_told _ _ _ _ _ _ c.word-offset.ensures c.word-len.ensures c.roll_read-rolled.ensures.0 in
     let passed = passed-sampled _ _ _ only _ _ _ refl (omega (arith, c.requires.r_bound.0)) c.requires.r_bound.1 in

@@ -5,4 +5,4 @@ use Rattle.expressions.proofs.arguments.slot.Goals as goal
 
 pub returns : goal.returns
 unfolding slot_at
-returns c = c.load.ensures
+returns c = c.entry.ensures

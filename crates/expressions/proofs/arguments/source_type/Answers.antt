@@ -1,20 +1,9 @@
 -- The type of the first expression among what was asked is that of the first among what is left, cell by cell.
 -- The laws of the typed arguments, and a number that falls with each cell. Assumes nothing.
-use mathlib.Core.Path.{refl}
-use native.Mathlib.Omega.{arith}
 use Rattle.expressions.specs.Answers.{a_type, no_type}
 use Rattle.syntax.proofs.Lists.{cell_below, next-list, next_falls}
-use Rattle.expressions.proofs.ArgumentLaws.{of-expr, slot-type, next-typed, source_hit, source_more, source_end}
+use Rattle.expressions.proofs.ArgumentLaws.{slot-type, next-typed, source_hit, source_more, source_end}
 use Rattle.expressions.proofs.arguments.source_type.Goals as goal
-
-pub loop-cell-init : goal.loop-cell-init
-loop-cell-init c = (c.requires.cells, c.requires.typed, refl)
-
-pub argument_at-requires : goal.argument_at-requires
-argument_at-requires c = record { good = c.requires.good; args_at = c.loop-cell.invariant.0; fact = c.loop-cell-test.true }
-
-pub slot-requires : goal.slot-requires
-slot-requires c = (omega (arith, (of-expr _ _ _ c.argument_at.ensures _ c.in-Expr.is).1, cell_below _ _ c.requires.good _ _ c.loop-cell.invariant.0 c.loop-cell-test.true), c.requires.room)
 
 pub returns-in-Expr : goal.returns-in-Expr
 returns-in-Expr c = (source_hit _ _ _ _ _ _ _ _ c.argument_at.ensures c.in-Expr.is c.slot.ensures c.loop-cell.invariant.2, a_type (slot-type _ _ _ _ _ c.argument_at.ensures c.loop-cell.invariant.1 _ _ c.in-Expr.is c.slot.ensures))

@@ -1,16 +1,9 @@
 -- The first type among what was asked is the first among what is left, cell by cell.
 -- The laws of the typed arguments, and a number that falls with each cell. Assumes nothing.
-use mathlib.Core.Path.{refl}
 use Rattle.expressions.specs.Answers.{a_type, no_type}
 use Rattle.syntax.proofs.Lists.{cell_below, next-list, next_falls}
 use Rattle.expressions.proofs.ArgumentLaws.{of-type, target_hit, target_more, target_end}
 use Rattle.expressions.proofs.arguments.target_type.Goals as goal
-
-pub loop-cell-init : goal.loop-cell-init
-loop-cell-init c = (c.requires.args_at, λ s. refl)
-
-pub argument_at-requires : goal.argument_at-requires
-argument_at-requires c = record { good = c.requires.good; args_at = c.loop-cell.invariant.0; fact = c.loop-cell-test.true }
 
 pub returns-in-ToType : goal.returns-in-ToType
 returns-in-ToType c = (λ s. target_hit _ _ s _ _ _ _ c.argument_at.ensures c.in-ToType.is (c.loop-cell.invariant.1 s), a_type (of-type _ _ _ c.argument_at.ensures _ c.in-ToType.is))

@@ -1,11 +1,7 @@
 -- The verb's number stands in scratch, the verb and the first cell are the record's words; the arguments are counted from there.
 -- By what each call ensures. Assumes nothing.
-use Rattle.expressions.proofs.CallLaws.{arguments_at, counted-at, verb-inside, verb-number}
+use Rattle.expressions.proofs.CallLaws.{arguments_at, counted-at, verb-number}
 use Rattle.expressions.proofs.calls.call_of.Goals as goal
-
-pub original-number-requires : goal.original-number-requires
-original-number-requires c = let first = c in
-    verb-inside _ c.args.text.now c.args.scratch.now _ c.requires.kind c.requires.good.2
 
 pub count_arguments-count-requires : goal.count_arguments-count-requires
 count_arguments-count-requires c = let first = c in

@@ -1,13 +1,8 @@
 -- `callee_at` meets its contract: the record's kind tells a function from a type.
 -- By `function-stands` and `cast-stands` of TypingLaws. Assumes nothing.
 use mathlib.Core.Path.{sym, ◌∙◌}
-use mathlib.Core.Logic.{⊎_elim}
-use native.Mathlib.Omega.{arith}
 use Rattle.expressions.proofs.TypingLaws.{function-stands, cast-stands}
 use Rattle.expressions.proofs.calls.callee_at.Goals as goal
-
-pub kind-requires : goal.kind-requires
-kind-requires c = ⊎_elim (λ h. omega (arith, h.below, c.requires.tree_len)) (λ h. omega (arith, h.below, c.requires.tree_len)) c.requires.function_at
 
 pub returns-then-kind-eq-KIND_FUNCTION : goal.returns-then-kind-eq-KIND_FUNCTION
 returns-then-kind-eq-KIND_FUNCTION c = function-stands _ _ c.requires.function_at (sym c.kind.ensures ∙ c.if-kind-eq-KIND_FUNCTION.true)

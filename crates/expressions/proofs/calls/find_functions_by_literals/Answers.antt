@@ -19,9 +19,6 @@ takes_call-requires c = record { called = c.requires.called; function_at = name-
 pub returns-in-One : goal.returns-in-One
 returns-in-One c = second-one _ _ _ c.requires.keyed _ c.requires.called _ _ _ c.loop-at.invariant (omega (arith, c.loop-at-test.true)) _ c.takes_call.ensures c.if-takes_call.true _ c.in-One.is
 
-pub name_before-at-requires : goal.name_before-at-requires
-name_before-at-requires c = omega (arith, c.loop-at.invariant.within, c.loop-at-test.true, c.requires.keyed.listed.room)
-
 pub loop-at-smaller : goal.loop-at-smaller
 loop-at-smaller c = name-less _ _ _ c.requires.keyed _ c.requires.called _ _ _ c.loop-at.invariant (omega (arith, c.loop-at-test.true)) _ c.name_before-at.ensures
 

@@ -3,8 +3,8 @@
 use Rattle.expressions.proofs.CallLaws.{exact_one, choice_one, choice_nobody, choice_several}
 use Rattle.expressions.proofs.calls.resolve_function.Goals as goal
 
-pub returns-in-At : goal.returns-in-At
-returns-in-At c = exact_one _ _ _ _ _ _ c.find_exact_function.ensures.is c.find_exact_function.ensures.function _ c.in-At.is
+pub returns-in-Some : goal.returns-in-Some
+returns-in-Some c = exact_one _ _ _ _ _ _ c.find_exact_function.ensures.is c.find_exact_function.ensures.function _ c.in-Some.is
 
 pub returns-in-One : goal.returns-in-One
 returns-in-One c = choice_one _ _ _ _ _ _ c.find_exact_function.ensures.is c.in_default.is _ c.find_functions_by_literals.ensures.are c.find_functions_by_literals.ensures.function _ c.in-One.is

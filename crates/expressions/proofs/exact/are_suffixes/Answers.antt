@@ -1,48 +1,33 @@
 -- The loop says whether the suffixes stand in the text, one behind the other.
 -- What was asked equals what is left: the suffixes from the present cell on, and the text from the present place on. Assumes nothing.
 use native.Mathlib.Omega.{arith}
-use Rattle.expressions.proofs.SuffixLaws.{first_cell, match_start, match_cell, match_end, match_room, match_mark, match_other, match_more}
+use Rattle.expressions.proofs.SuffixLaws.{first_cell, match_cell, match_end, match_room, match_mark, match_other, match_more}
 use Rattle.expressions.proofs.exact.are_suffixes.Goals as goal
 
-pub loop-i-init : goal.loop-i-init
-loop-i-init c = match_start _ _ _ _ c.args.k c.args.at c.requires.argued c.requires.k_in_bounds c.requires.first_in_bounds
-
 pub argument_type-requires : goal.argument_type-requires
-argument_type-requires c = record { argued = c.loop-i.invariant.argued; fact = match_cell _ _ _ _ _ _ _ _ _ c.loop-i.invariant c.loop-i-test.true }
-
-pub type_key-piece-requires : goal.type_key-piece-requires
-type_key-piece-requires c = record { good = c.loop-i.invariant.argued.good; type_at = c.argument_type.ensures.1 }
+argument_type-requires c = record { argued = c.loop.invariant.argued; fact = match_cell _ _ _ _ _ _ _ _ _ c.loop.invariant c.loop-test.true }
 
 pub bounds-text-here : goal.bounds-text-here
-bounds-text-here c = omega (arith, match_room _ _ _ _ _ _ _ _ _ c.loop-i.invariant _ _ c.loop-i-test.true (first_cell _ _ _ _ _ c.loop-i.invariant.argued (match_cell _ _ _ _ _ _ _ _ _ c.loop-i.invariant c.loop-i-test.true) c.argument_type.ensures.0) c.type_key-piece.ensures)
+bounds-text-here c = omega (arith, match_room _ _ _ _ _ _ _ _ _ c.loop.invariant _ _ c.loop-test.true (first_cell _ _ _ _ _ c.loop.invariant.argued (match_cell _ _ _ _ _ _ _ _ _ c.loop.invariant c.loop-test.true) c.argument_type.ensures.0) c.type_key-piece.ensures)
 
 pub returns-then-text-here-ne-DOLLAR : goal.returns-then-text-here-ne-DOLLAR
-returns-then-text-here-ne-DOLLAR c = match_mark _ _ _ _ _ _ _ _ _ c.loop-i.invariant _ _ c.loop-i-test.true (first_cell _ _ _ _ _ c.loop-i.invariant.argued (match_cell _ _ _ _ _ _ _ _ _ c.loop-i.invariant c.loop-i-test.true) c.argument_type.ensures.0) c.type_key-piece.ensures c.if-text-here-ne-DOLLAR.true
-
-pub overflow_add-here : goal.overflow_add-here
-overflow_add-here c = omega (arith, match_room _ _ _ _ _ _ _ _ _ c.loop-i.invariant _ _ c.loop-i-test.true (first_cell _ _ _ _ _ c.loop-i.invariant.argued (match_cell _ _ _ _ _ _ _ _ _ c.loop-i.invariant c.loop-i-test.true) c.argument_type.ensures.0) c.type_key-piece.ensures)
+returns-then-text-here-ne-DOLLAR c = match_mark _ _ _ _ _ _ _ _ _ c.loop.invariant _ _ c.loop-test.true (first_cell _ _ _ _ _ c.loop.invariant.argued (match_cell _ _ _ _ _ _ _ _ _ c.loop.invariant c.loop-test.true) c.argument_type.ensures.0) c.type_key-piece.ensures c.if-text-here-ne-DOLLAR.true
 
 pub same_part-requires : goal.same_part-requires
 same_part-requires c = (
-  omega (arith, match_room _ _ _ _ _ _ _ _ _ c.loop-i.invariant _ _ c.loop-i-test.true (first_cell _ _ _ _ _ c.loop-i.invariant.argued (match_cell _ _ _ _ _ _ _ _ _ c.loop-i.invariant c.loop-i-test.true) c.argument_type.ensures.0) c.type_key-piece.ensures),
+  omega (arith, match_room _ _ _ _ _ _ _ _ _ c.loop.invariant _ _ c.loop-test.true (first_cell _ _ _ _ _ c.loop.invariant.argued (match_cell _ _ _ _ _ _ _ _ _ c.loop.invariant c.loop-test.true) c.argument_type.ensures.0) c.type_key-piece.ensures),
   c.type_key-piece.ensures.inside,
 )
 
 pub returns-then-not-same_part : goal.returns-then-not-same_part
-returns-then-not-same_part c = match_other _ _ _ _ _ _ _ _ _ c.loop-i.invariant _ _ c.loop-i-test.true (first_cell _ _ _ _ _ c.loop-i.invariant.argued (match_cell _ _ _ _ _ _ _ _ _ c.loop-i.invariant c.loop-i-test.true) c.argument_type.ensures.0) c.type_key-piece.ensures c.if-text-here-ne-DOLLAR.false _ c.same_part.ensures c.if-not-same_part.true
-
-pub overflow_add-here-in-loop-i : goal.overflow_add-here-in-loop-i
-overflow_add-here-in-loop-i c = omega (arith, match_room _ _ _ _ _ _ _ _ _ c.loop-i.invariant _ _ c.loop-i-test.true (first_cell _ _ _ _ _ c.loop-i.invariant.argued (match_cell _ _ _ _ _ _ _ _ _ c.loop-i.invariant c.loop-i-test.true) c.argument_type.ensures.0) c.type_key-piece.ensures)
-
-pub overflow_add-here-in-loop-i-2 : goal.overflow_add-here-in-loop-i-2
-overflow_add-here-in-loop-i-2 c = omega (arith, match_room _ _ _ _ _ _ _ _ _ c.loop-i.invariant _ _ c.loop-i-test.true (first_cell _ _ _ _ _ c.loop-i.invariant.argued (match_cell _ _ _ _ _ _ _ _ _ c.loop-i.invariant c.loop-i-test.true) c.argument_type.ensures.0) c.type_key-piece.ensures)
+returns-then-not-same_part c = match_other _ _ _ _ _ _ _ _ _ c.loop.invariant _ _ c.loop-test.true (first_cell _ _ _ _ _ c.loop.invariant.argued (match_cell _ _ _ _ _ _ _ _ _ c.loop.invariant c.loop-test.true) c.argument_type.ensures.0) c.type_key-piece.ensures c.if-text-here-ne-DOLLAR.false _ c.same_part.ensures c.if-not-same_part.true
 
 pub next_cell-cell-requires : goal.next_cell-cell-requires
-next_cell-cell-requires c = (first_cell _ _ _ _ _ c.loop-i.invariant.argued (match_cell _ _ _ _ _ _ _ _ _ c.loop-i.invariant c.loop-i-test.true) c.argument_type.ensures.0).inside
+next_cell-cell-requires c = (first_cell _ _ _ _ _ c.loop.invariant.argued (match_cell _ _ _ _ _ _ _ _ _ c.loop.invariant c.loop-test.true) c.argument_type.ensures.0).inside
 
-pub loop-i-preserved : goal.loop-i-preserved
-loop-i-preserved c = rw c.next_cell-cell.ensures
-    (match_more _ _ _ _ _ _ _ _ _ c.loop-i.invariant _ _ c.loop-i-test.true (first_cell _ _ _ _ _ c.loop-i.invariant.argued (match_cell _ _ _ _ _ _ _ _ _ c.loop-i.invariant c.loop-i-test.true) c.argument_type.ensures.0) c.type_key-piece.ensures c.if-text-here-ne-DOLLAR.false _ c.same_part.ensures c.if-not-same_part.false)
+pub loop-preserved : goal.loop-preserved
+loop-preserved c = rw c.next_cell-cell.ensures
+    (match_more _ _ _ _ _ _ _ _ _ c.loop.invariant _ _ c.loop-test.true (first_cell _ _ _ _ _ c.loop.invariant.argued (match_cell _ _ _ _ _ _ _ _ _ c.loop.invariant c.loop-test.true) c.argument_type.ensures.0) c.type_key-piece.ensures c.if-text-here-ne-DOLLAR.false _ c.same_part.ensures c.if-not-same_part.false)
 
 pub returns : goal.returns
-returns c = match_end _ _ _ _ _ _ _ _ _ c.loop-i.invariant c.loop-i-test.false
+returns c = match_end _ _ _ _ _ _ _ _ _ c.loop.invariant c.loop-test.false

@@ -1,34 +1,17 @@
 -- The function whose key is the whole name, where it is mangled: the chain of its digest is walked. The invariant: no function met so far has the name as its key.
 -- By the laws of a walk along a chain of keys; the measure is the place. Assumes nothing.
-use mathlib.Core.Path.{◌∙◌}
 use native.Mathlib.Omega.{arith}
 use Rattle.keys.proofs.FoundLaws.{key_start, key_end, key_function, hit_is, key_skip, key_next, key_less, key_here}
 use Rattle.expressions.proofs.ExactLaws.{verb-below, key_told, key_longer, name-found, name_nowhere}
 use Rattle.expressions.proofs.exact.by_full_name.Goals.{then-kept_digest-digest+then-key-length+else-is_name, then-kept_digest-digest+else-key-length, else-kept_digest-digest}
 use Rattle.expressions.proofs.exact.by_full_name.Goals as goal
 
-pub full_length-length-requires : goal.full_length-length-requires
-full_length-length-requires c = c.requires.called
-
-pub full_digest-digest-requires : goal.full_digest-digest-requires
-full_digest-digest-requires c = (c.requires.called, c.requires.keyed.numbered)
-
-pub key_head-at-requires : goal.key_head-at-requires
-key_head-at-requires c = let start = c in
-    (omega (arith, verb-below _ _ _ _ c.requires.called), c.requires.keyed.good.few, c.requires.keyed.listed.room)
-
 pub loop-at-init : goal.loop-at-init
 loop-at-init c = let start = c in
     key_start _ _ _ c.requires.keyed _ _ c.full_digest-digest.ensures _ (omega (arith, verb-below _ _ _ _ c.requires.called)) c.key_head-at.ensures
 
-pub kept_digest-requires : goal.kept_digest-requires
-kept_digest-requires c = omega (arith, c.loop-at.invariant.within, c.loop-at-test.true, c.requires.keyed.listed.room)
-
 pub key_of-key-requires : goal.key_of-key-requires
 key_of-key-requires c = record { good = c.requires.keyed.good; function_at = key_function _ _ _ c.requires.keyed _ _ c.full_digest-digest.ensures _ _ c.loop-at.invariant (omega (arith, c.loop-at-test.true)) }
-
-pub is_name-requires : goal.is_name-requires
-is_name-requires c = record { called = c.requires.called; k_le_count = (omega arith, c.key_of-key.ensures.inside); len_value = c.if-key-length.true ∙ c.full_length-length.ensures }
 
 pub mangled_only-requires : goal.mangled_only-requires
 mangled_only-requires c = record { good = c.requires.keyed.good; function_at = key_function _ _ _ c.requires.keyed _ _ c.full_digest-digest.ensures _ _ c.loop-at.invariant (omega (arith, c.loop-at-test.true)) }
@@ -38,9 +21,6 @@ returns-then-is_name c = let same = key_told _ _ _ _ _ c.key_of-key.ensures _ _ 
     name-found _ _ _ _ _
     (key_here _ _ _ c.requires.keyed _ _ c.full_digest-digest.ensures _ _ c.loop-at.invariant (omega (arith, c.loop-at-test.true)) same)
     c.mangled_only.ensures
-
-pub key_before-at-requires : goal.key_before-at-requires
-key_before-at-requires c = omega (arith, c.loop-at.invariant.within, c.loop-at-test.true, c.requires.keyed.listed.room)
 
 pub loop-at-smaller : goal.loop-at-smaller
 loop-at-smaller c = key_less _ _ _ c.requires.keyed _ _ c.full_digest-digest.ensures _ _ c.loop-at.invariant (omega (arith, c.loop-at-test.true)) _ c.key_before-at.ensures

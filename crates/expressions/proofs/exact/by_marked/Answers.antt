@@ -6,23 +6,12 @@ use Rattle.expressions.proofs.ExactLaws.{verb-below, key_told, name-found, name_
 use Rattle.expressions.proofs.exact.by_marked.Goals.{else-kept_digest-digest, then-kept_digest-digest+else-is_marked}
 use Rattle.expressions.proofs.exact.by_marked.Goals as goal
 
-pub key_head-at-requires : goal.key_head-at-requires
-key_head-at-requires c = let start = c in
-    (omega (arith, verb-below _ _ _ _ c.requires.called), c.requires.keyed.good.few, c.requires.keyed.listed.room)
-
 pub loop-at-init : goal.loop-at-init
 loop-at-init c = let start = c in
     key_start _ _ _ c.requires.keyed _ _ c.requires.k_le_count.2 _ (omega (arith, verb-below _ _ _ _ c.requires.called)) c.key_head-at.ensures
 
-pub kept_digest-requires : goal.kept_digest-requires
-kept_digest-requires c = omega (arith, c.loop-at.invariant.within, c.loop-at-test.true, c.requires.keyed.listed.room)
-
 pub key_of-key-requires : goal.key_of-key-requires
 key_of-key-requires c = record { good = c.requires.keyed.good; function_at = key_function _ _ _ c.requires.keyed _ _ c.requires.k_le_count.2 _ _ c.loop-at.invariant (omega (arith, c.loop-at-test.true)) }
-
-pub is_marked-requires : goal.is_marked-requires
-is_marked-requires c = let start = c in
-    record { called = c.requires.called; k_le_count = (c.requires.k_le_count.0, c.requires.k_le_count.1, c.key_of-key.ensures.inside) }
 
 pub mangled_only-requires : goal.mangled_only-requires
 mangled_only-requires c = record { good = c.requires.keyed.good; function_at = key_function _ _ _ c.requires.keyed _ _ c.requires.k_le_count.2 _ _ c.loop-at.invariant (omega (arith, c.loop-at-test.true)) }
@@ -32,9 +21,6 @@ returns-then-is_marked c = let same = key_told _ _ _ _ _ c.key_of-key.ensures _ 
     name-found _ _ _ _ _
     (key_here _ _ _ c.requires.keyed _ _ c.requires.k_le_count.2 _ _ c.loop-at.invariant (omega (arith, c.loop-at-test.true)) same)
     c.mangled_only.ensures
-
-pub key_before-at-requires : goal.key_before-at-requires
-key_before-at-requires c = omega (arith, c.loop-at.invariant.within, c.loop-at-test.true, c.requires.keyed.listed.room)
 
 pub loop-at-smaller : goal.loop-at-smaller
 loop-at-smaller c = key_less _ _ _ c.requires.keyed _ _ c.requires.k_le_count.2 _ _ c.loop-at.invariant (omega (arith, c.loop-at-test.true)) _ c.key_before-at.ensures

@@ -9,13 +9,13 @@ find_key-requires c = let first = c in
     (c.requires.keyed.good, c.requires.keyed.listed.room, verb-below _ _ _ _ c.requires.called)
 
 pub takes_call-requires : goal.takes_call-requires
-takes_call-requires c = record { called = c.requires.called; function_at = found-function _ _ _ (verb-found _ _ _ _ c.requires.called c.requires.keyed _ c.find_key.ensures).function c.in-At.is }
+takes_call-requires c = record { called = c.requires.called; function_at = found-function _ _ _ (verb-found _ _ _ _ c.requires.called c.requires.keyed _ c.find_key.ensures).function c.in_ok-f.was }
 
 pub returns-then-takes_call : goal.returns-then-takes_call
-returns-then-takes_call c = filter_hit _ _ _ _ _ (verb-found _ _ _ _ c.requires.called c.requires.keyed _ c.find_key.ensures).is _ _ (verb-found _ _ _ _ c.requires.called c.requires.keyed _ c.find_key.ensures).function c.in-At.is c.takes_call.ensures c.if-takes_call.true
+returns-then-takes_call c = filter_hit _ _ _ _ _ (verb-found _ _ _ _ c.requires.called c.requires.keyed _ c.find_key.ensures).is _ _ (verb-found _ _ _ _ c.requires.called c.requires.keyed _ c.find_key.ensures).function c.in_ok-f.was c.takes_call.ensures c.if-takes_call.true
 
-pub returns-else-takes_call : goal.returns-else-takes_call
-returns-else-takes_call c = filter-left _ _ _ _ _ (verb-found _ _ _ _ c.requires.called c.requires.keyed _ c.find_key.ensures).is _ _ c.in-At.is c.takes_call.ensures c.if-takes_call.false
+pub returns : goal.returns
+returns c = filter-left _ _ _ _ _ (verb-found _ _ _ _ c.requires.called c.requires.keyed _ c.find_key.ensures).is _ _ c.in_ok-f.was c.takes_call.ensures c.if-takes_call.false
 
-pub returns-in_default : goal.returns-in_default
-returns-in_default c = filter_none _ _ _ _ _ (verb-found _ _ _ _ c.requires.called c.requires.keyed _ c.find_key.ensures).is c.in_default.is
+pub returns-in_err-f : goal.returns-in_err-f
+returns-in_err-f c = rw c.from_residual.ensures (filter_none _ _ _ _ _ (verb-found _ _ _ _ c.requires.called c.requires.keyed _ c.find_key.ensures).is c.in_err-f.was)

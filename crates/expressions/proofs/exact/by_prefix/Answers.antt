@@ -5,55 +5,25 @@ use Rattle.expressions.proofs.SuffixLaws.{first_cell, key_short}
 use Rattle.expressions.proofs.PrefixLaws.{prefix_start, prefix_marked, prefix_more, prefix_end}
 use Rattle.expressions.proofs.exact.by_prefix.Goals as goal
 
-pub verb_digest-digest-requires : goal.verb_digest-digest-requires
-verb_digest-digest-requires c = (c.requires.called, c.requires.keyed.numbered)
-
 pub loop-cell-init : goal.loop-cell-init
 loop-cell-init c = prefix_start _ _ _ _ c.requires.called _ c.verb_digest-digest.ensures
-
-pub marked_digest-marked-requires : goal.marked_digest-marked-requires
-marked_digest-marked-requires c = c.loop-cell.invariant.small
 
 pub by_marked-found-requires : goal.by_marked-found-requires
 by_marked-found-requires c = record { keyed = c.requires.keyed; called = c.requires.called; k_le_count = (c.loop-cell.invariant.number, c.loop-cell.invariant.sized, prefix_marked _ _ _ _ c.requires.called _ _ _ _ _ c.loop-cell.invariant _ c.marked_digest-marked.ensures) }
 
-pub argument_type-requires : goal.argument_type-requires
-argument_type-requires c = record { argued = c.loop-cell.invariant.argued; fact = c.loop-cell-test.true }
-
-pub type_key-key-requires : goal.type_key-key-requires
-type_key-key-requires c = record { good = c.loop-cell.invariant.argued.good; type_at = c.argument_type.ensures.1 }
-
-pub roll_byte-requires : goal.roll_byte-requires
-roll_byte-requires c = c.loop-cell.invariant.small
-
-pub roll-digest-requires : goal.roll-digest-requires
-roll-digest-requires c = (c.type_key-key.ensures.inside, c.roll_byte.ensures.1)
-
-pub overflow_add-size : goal.overflow_add-size
-overflow_add-size c = omega (arith, c.loop-cell.invariant.short)
-
-pub overflow_add-size-in-loop-cell : goal.overflow_add-size-in-loop-cell
-overflow_add-size-in-loop-cell c = omega (arith, c.loop-cell.invariant.short, key_short _ _ _ _ c.type_key-key.ensures (λ i. omega (arith, c.shared_slice_known-1.given i)))
-
 pub next_cell-cell-requires : goal.next_cell-cell-requires
 next_cell-cell-requires c = (first_cell _ _ _ _ _ c.loop-cell.invariant.argued c.loop-cell-test.true c.argument_type.ensures.0).inside
-
-pub overflow_add-k : goal.overflow_add-k
-overflow_add-k c = omega (arith, c.loop-cell.invariant.few, c.loop-cell.invariant.short)
 
 pub loop-cell-smaller : goal.loop-cell-smaller
 loop-cell-smaller c = rw c.next_cell-cell.ensures (first_cell _ _ _ _ _ c.loop-cell.invariant.argued c.loop-cell-test.true c.argument_type.ensures.0).falls
 
 pub loop-cell-preserved : goal.loop-cell-preserved
-loop-cell-preserved c = rw (c.next_cell-cell.ensures, c.later-best.ensures)
+loop-cell-preserved c = rw (c.next_cell-cell.ensures, c.or-best.ensures)
     (prefix_more _ _ _ _ c.requires.called _ _ _ _ _ c.loop-cell.invariant _ c.by_marked-found.ensures _ _ (first_cell _ _ _ _ _ c.loop-cell.invariant.argued c.loop-cell-test.true c.argument_type.ensures.0) c.type_key-key.ensures
     (key_short _ _ _ _ c.type_key-key.ensures (λ i. omega (arith, c.shared_slice_known-1.given i))) _ _ c.roll_byte.ensures.0 c.roll-digest.ensures)
-
-pub marked_digest-marked-requires-2 : goal.marked_digest-marked-requires-2
-marked_digest-marked-requires-2 c = c.loop-cell.invariant.small
 
 pub by_marked-requires : goal.by_marked-requires
 by_marked-requires c = record { keyed = c.requires.keyed; called = c.requires.called; k_le_count = (c.loop-cell.invariant.number, c.loop-cell.invariant.sized, prefix_marked _ _ _ _ c.requires.called _ _ _ _ _ c.loop-cell.invariant _ c.marked_digest-marked-2.ensures) }
 
 pub returns : goal.returns
-returns c = rw c.later.ensures (prefix_end _ _ _ _ c.requires.called _ _ _ _ _ c.loop-cell.invariant _ c.by_marked.ensures c.loop-cell-test.false)
+returns c = rw c.or.ensures (prefix_end _ _ _ _ c.requires.called _ _ _ _ _ c.loop-cell.invariant _ c.by_marked.ensures c.loop-cell-test.false)

@@ -10,12 +10,11 @@ find_key-requires c = let first = c in
 
 pub mangled_only-requires : goal.mangled_only-requires
 mangled_only-requires c = let first = c in
-    record { good = c.requires.keyed.good; function_at = found-function _ _ _ (verb-found _ _ _ _ c.requires.called.0 c.requires.keyed _ c.find_key.ensures).function c.in-At.is }
-
-pub returns-in-At : goal.returns-in-At
-returns-in-At c = let first = c in
-    verb_alone _ _ _ _ c.requires.called.0 c.requires.called.1 c.requires.keyed _ c.find_key.ensures _ c.in-At.is _ c.mangled_only.ensures
+    record { good = c.requires.keyed.good; function_at = found-function _ _ _ (verb-found _ _ _ _ c.requires.called.0 c.requires.keyed _ c.find_key.ensures).function c.in_ok-f.was }
 
 pub returns : goal.returns
 returns c = let first = c in
-    verb_missing _ _ _ _ c.requires.called.0 c.requires.called.1 c.requires.keyed _ c.find_key.ensures c.in_default.is
+    verb_alone _ _ _ _ c.requires.called.0 c.requires.called.1 c.requires.keyed _ c.find_key.ensures _ c.in_ok-f.was _ c.mangled_only.ensures
+
+pub returns-in_err-f : goal.returns-in_err-f
+returns-in_err-f c = rw c.from_residual.ensures (verb_missing _ _ _ _ c.requires.called.0 c.requires.called.1 c.requires.keyed _ c.find_key.ensures c.in_err-f.was)

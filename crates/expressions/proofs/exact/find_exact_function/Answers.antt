@@ -3,20 +3,11 @@
 use Rattle.expressions.proofs.ExactLaws.{exact-verb, exact-name, exact_prefix}
 use Rattle.expressions.proofs.exact.find_exact_function.Goals as goal
 
-pub by_name-requires : goal.by_name-requires
-by_name-requires c = record { keyed = c.requires.keyed; called = c.requires.called }
+pub returns-in-Some : goal.returns-in-Some
+returns-in-Some c = exact-verb _ _ _ _ c.requires.called _ c.by_name.ensures.is _ c.by_name.ensures.function c.in-Some.is
 
-pub returns-in-At : goal.returns-in-At
-returns-in-At c = exact-verb _ _ _ _ c.requires.called _ c.by_name.ensures.is _ c.by_name.ensures.function c.in-At.is
-
-pub by_whole_name-requires : goal.by_whole_name-requires
-by_whole_name-requires c = record { keyed = c.requires.keyed; called = c.requires.called }
-
-pub returns-in-At-by_whole_name : goal.returns-in-At-by_whole_name
-returns-in-At-by_whole_name c = exact-name _ _ _ _ c.requires.called _ c.by_name.ensures.is c.in_default.is _ c.by_whole_name.ensures.is _ c.by_whole_name.ensures.function c.in-At-by_whole_name.is
-
-pub by_prefix-requires : goal.by_prefix-requires
-by_prefix-requires c = record { keyed = c.requires.keyed; called = c.requires.called }
+pub returns-in-Some-by_whole_name : goal.returns-in-Some-by_whole_name
+returns-in-Some-by_whole_name c = exact-name _ _ _ _ c.requires.called _ c.by_name.ensures.is c.in_default.is _ c.by_whole_name.ensures.is _ c.by_whole_name.ensures.function c.in-Some-by_whole_name.is
 
 pub returns : goal.returns
 returns c = record {

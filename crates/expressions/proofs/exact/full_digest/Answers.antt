@@ -2,26 +2,8 @@
 -- By the laws of that digest, cell by cell. Assumes nothing.
 use mathlib.Core.Path.{refl}
 use Rattle.expressions.proofs.SuffixLaws.{first_cell}
-use Rattle.expressions.proofs.NameDigest.{rolled_start, rolled-more, rolled_end}
+use Rattle.expressions.proofs.NameDigest.{rolled-more, rolled_end}
 use Rattle.expressions.proofs.exact.full_digest.Goals as goal
-
-pub verb_digest-d-requires : goal.verb_digest-d-requires
-verb_digest-d-requires c = c.requires
-
-pub loop-cell-init : goal.loop-cell-init
-loop-cell-init c = rolled_start _ _ _ _ _ c.requires.0.argued c.verb_digest-d.ensures.1
-
-pub argument_type-requires : goal.argument_type-requires
-argument_type-requires c = record { argued = c.loop-cell.invariant.argued; fact = c.loop-cell-test.true }
-
-pub type_key-key-requires : goal.type_key-key-requires
-type_key-key-requires c = record { good = c.loop-cell.invariant.argued.good; type_at = c.argument_type.ensures.1 }
-
-pub roll_byte-requires : goal.roll_byte-requires
-roll_byte-requires c = c.loop-cell.invariant.small
-
-pub roll-d-requires : goal.roll-d-requires
-roll-d-requires c = (c.type_key-key.ensures.inside, c.roll_byte.ensures.1)
 
 pub next_cell-cell-requires : goal.next_cell-cell-requires
 next_cell-cell-requires c = (first_cell _ _ _ _ _ c.loop-cell.invariant.argued c.loop-cell-test.true c.argument_type.ensures.0).inside

@@ -2,7 +2,6 @@
 -- By the pieces of the key. Assumes nothing.
 use mathlib.Core.Bool.{not}
 use mathlib.Core.Path.{ap}
-use native.Mathlib.Omega.{arith}
 use Rattle.expressions.proofs.PrefixLaws.{marked-short, marked_longer, marked_other, marked-name}
 use Rattle.expressions.proofs.exact.is_marked.Goals as goal
 
@@ -12,17 +11,8 @@ returns-then-key-lt-MARK_BYTES c = marked-short _ _ _ _ _ _ c.requires.k_le_coun
 pub returns-then-key-size : goal.returns-then-key-size
 returns-then-key-size c = marked_longer _ _ _ _ _ _ c.requires.k_le_count.2 _ c.requires.k_le_count.1 c.if-key-lt-MARK_BYTES.false c.if-key-size.true
 
-pub overflow_add-at : goal.overflow_add-at
-overflow_add-at c = omega (arith, c.if-key-size.false, c.if-key-lt-MARK_BYTES.false, c.requires.k_le_count.2)
-
-pub is_variadic_mark-requires : goal.is_variadic_mark-requires
-is_variadic_mark-requires c = omega (arith, c.if-key-size.false, c.if-key-lt-MARK_BYTES.false, c.requires.k_le_count.2)
-
 pub returns-then-not-is_variadic_mark : goal.returns-then-not-is_variadic_mark
 returns-then-not-is_variadic_mark c = marked_other _ _ _ _ _ _ c.requires.k_le_count.2 _ c.requires.k_le_count.1 c.if-key-lt-MARK_BYTES.false c.if-key-size.false _ c.is_variadic_mark.ensures (ap not c.if-not-is_variadic_mark.true)
-
-pub is_name-requires : goal.is_name-requires
-is_name-requires c = record { called = c.requires.called; k_le_count = (c.requires.k_le_count.0, omega (arith, c.if-key-size.false, c.if-key-lt-MARK_BYTES.false, c.requires.k_le_count.2)); len_value = c.requires.k_le_count.1 }
 
 pub returns : goal.returns
 returns c = marked-name _ _ _ _ _ _ c.requires.k_le_count.2 _ c.requires.k_le_count.1 c.if-key-lt-MARK_BYTES.false c.if-key-size.false _ c.is_variadic_mark.ensures (ap not c.if-not-is_variadic_mark.false) _ c.is_name.ensures

@@ -11,9 +11,6 @@ same_part-requires c = (omega (arith, c.requires.k_le_count.1, verb-inside _ _ _
 pub returns-then-not-same_part : goal.returns-then-not-same_part
 returns-then-not-same_part c = name-other _ _ _ _ c.requires.called _ _ c.requires.len_value c.requires.k_le_count.1 _ c.same_part.ensures c.if-not-same_part.true
 
-pub overflow_add-at : goal.overflow_add-at
-overflow_add-at c = omega (arith, c.requires.k_le_count.1, verb-inside _ _ _ _ c.requires.called _ c.args.key c.requires.len_value)
-
 pub are_suffixes-requires : goal.are_suffixes-requires
 are_suffixes-requires c = record { argued = c.requires.called.argued; k_in_bounds = number-inside _ _ _ _ _ c.requires.called c.requires.k_le_count.0; first_in_bounds = suffixes-inside _ _ _ _ c.requires.called _ c.args.key c.requires.len_value c.requires.k_le_count.1 }
 

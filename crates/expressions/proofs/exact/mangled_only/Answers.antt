@@ -3,9 +3,6 @@
 use Rattle.expressions.proofs.ExactLaws.{mangled_hit, mangled_left}
 use Rattle.expressions.proofs.exact.mangled_only.Goals as goal
 
-pub is_mangled-requires : goal.is_mangled-requires
-is_mangled-requires c = record { good = c.requires.good; function_at = c.requires.function_at }
-
 pub returns-then-is_mangled : goal.returns-then-is_mangled
 returns-then-is_mangled c = mangled_hit _ _ _ _ c.requires.function_at c.is_mangled.ensures c.if-is_mangled.true
 

@@ -7,18 +7,6 @@ use Rattle.expressions.proofs.exact.suffix_bytes.Goals as goal
 pub loop-cell-init : goal.loop-cell-init
 loop-cell-init c = sum_start _ _ _ _ c.requires
 
-pub argument_type-requires : goal.argument_type-requires
-argument_type-requires c = record { argued = c.loop-cell.invariant.argued; fact = c.loop-cell-test.true }
-
-pub type_key-key-requires : goal.type_key-key-requires
-type_key-key-requires c = record { good = c.loop-cell.invariant.argued.good; type_at = c.argument_type.ensures.1 }
-
-pub overflow_add-n : goal.overflow_add-n
-overflow_add-n c = omega (arith, c.loop-cell.invariant.small)
-
-pub overflow_add-n-in-loop-cell : goal.overflow_add-n-in-loop-cell
-overflow_add-n-in-loop-cell c = omega (arith, c.loop-cell.invariant.small, key_short _ _ _ _ c.type_key-key.ensures (λ i. omega (arith, c.shared_slice_known-1.given i)))
-
 pub next_cell-cell-requires : goal.next_cell-cell-requires
 next_cell-cell-requires c = (first_cell _ _ _ _ _ c.loop-cell.invariant.argued c.loop-cell-test.true c.argument_type.ensures.0).inside
 

@@ -3,17 +3,8 @@
 use Rattle.expressions.proofs.TypingLaws.{callee-ready, call_known}
 use Rattle.expressions.proofs.expressions.resolve_call.Goals as goal
 
-pub is_typed-requires : goal.is_typed-requires
-is_typed-requires c = (c.requires.kind.below, c.requires.typing.ready.keyed.listed.room)
-
-pub beside-requires : goal.beside-requires
-beside-requires c = (c.requires.kind.below, c.requires.typing.ready.keyed.listed.room)
-
 pub callee_at-requires : goal.callee_at-requires
 callee_at-requires c = record { function_at = (callee-ready _ _ c.requires.typing.ready.keyed.good _ c.requires.kind _ _ _ c.requires.typing _ c.is_typed.ensures c.if-is_typed.true _ c.beside.ensures).0; tree_len = (callee-ready _ _ c.requires.typing.ready.keyed.good _ c.requires.kind _ _ _ c.requires.typing _ c.is_typed.ensures c.if-is_typed.true _ c.beside.ensures).1 }
 
 pub returns-then-is_typed : goal.returns-then-is_typed
 returns-then-is_typed c = call_known _ _ c.requires.typing.ready.keyed.good _ c.requires.kind _ _ _ c.requires.typing _ c.is_typed.ensures c.if-is_typed.true _ c.beside.ensures _ c.callee_at.ensures
-
-pub returns : goal.returns
-returns c = c.find_callee.ensures

@@ -1,11 +1,8 @@
 -- The name of a record declared.
 -- By what `declare` owes of the words of the lowest record with the text. Assumes nothing.
 use native.Mathlib.Omega.{arith}
-use Rattle.expressions.proofs.OriginalLaws.{number-inside, origin_inside, slot-inside, origin_declared}
+use Rattle.expressions.proofs.OriginalLaws.{origin_inside, slot-inside, origin_declared}
 use Rattle.expressions.proofs.names.declare_name.Goals as goal
-
-pub original-o-requires : goal.original-o-requires
-original-o-requires c = number-inside c.requires.0
 
 pub word-offset-requires : goal.word-offset-requires
 word-offset-requires c = (origin_inside c.requires.0 c.original-o.ensures, omega arith)

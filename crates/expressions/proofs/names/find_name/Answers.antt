@@ -1,11 +1,8 @@
 -- The variable of a record's name.
 -- By what `find_variable` owes of the words of the lowest record with the text. Assumes nothing.
 use native.Mathlib.Omega.{arith}
-use Rattle.expressions.proofs.OriginalLaws.{number-inside, origin_inside, slot-inside, origin_found}
+use Rattle.expressions.proofs.OriginalLaws.{origin_inside, slot-inside, origin_found}
 use Rattle.expressions.proofs.names.find_name.Goals as goal
-
-pub original-o-requires : goal.original-o-requires
-original-o-requires c = number-inside c.requires
 
 pub word-offset-requires : goal.word-offset-requires
 word-offset-requires c = (origin_inside c.requires c.original-o.ensures, omega arith)

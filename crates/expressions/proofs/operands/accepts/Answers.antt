@@ -1,22 +1,23 @@
 -- `accepts` meets its contract: the test of each class is the definition's.
--- By the class's number, and for integers by the form of the type. Assumes nothing.
-use Rattle.expressions.proofs.OperandLaws.{accepts_bools, accepts_any, accepts_numbers, accepts_integers}
+-- By the class, and for integers by the form of the type. Assumes nothing.
+use mathlib.Core.Path.{refl}
+use Rattle.syntax.specs.Decode.{program}
+use Rattle.conversion.specs.Expressions.{Bools, Any, Numbers, Integers, accepts_class}
+use Rattle.expressions.proofs.OperandLaws.{accepts_as, int_form}
 use Rattle.expressions.proofs.operands.accepts.Goals as goal
 
-pub returns-then-class-eq-BOOLS : goal.returns-then-class-eq-BOOLS
-returns-then-class-eq-BOOLS c = λ text. accepts_bools _ text _ _ c.if-class-eq-BOOLS.true
+pub returns-in-Bools : goal.returns-in-Bools
+unfolding accepts_class
+returns-in-Bools c = λ text. accepts_as c.args.tree.now text c.args.ty _ Bools c.in-Bools.is _ refl
 
-pub returns-then-class-eq-ANY : goal.returns-then-class-eq-ANY
-returns-then-class-eq-ANY c = λ text. accepts_any _ text _ _ c.if-class-eq-ANY.true
+pub returns-in-Any : goal.returns-in-Any
+unfolding accepts_class
+returns-in-Any c = λ text. accepts_as c.args.tree.now text c.args.ty _ Any c.in-Any.is _ refl
 
-pub is_number-requires : goal.is_number-requires
-is_number-requires c = c.requires
+pub returns-in-Numbers : goal.returns-in-Numbers
+unfolding accepts_class program
+returns-in-Numbers c = λ text. accepts_as c.args.tree.now text c.args.ty _ Numbers c.in-Numbers.is _ (c.is_number.ensures text)
 
-pub returns-then-class-eq-NUMBERS : goal.returns-then-class-eq-NUMBERS
-returns-then-class-eq-NUMBERS c = λ text. accepts_numbers _ text _ _ c.if-class-eq-NUMBERS.true _ c.is_number.ensures
-
-pub form-requires : goal.form-requires
-form-requires c = c.requires
-
-pub returns : goal.returns
-returns c = λ text. accepts_integers _ text _ _ c.if-class-eq-BOOLS.false c.if-class-eq-ANY.false c.if-class-eq-NUMBERS.false _ c.form.ensures
+pub returns-in-Integers : goal.returns-in-Integers
+unfolding accepts_class program
+returns-in-Integers c = λ text. accepts_as c.args.tree.now text c.args.ty _ Integers c.in-Integers.is _ (int_form c.args.tree.now text c.args.ty _ c.form.ensures)

@@ -1,6 +1,5 @@
 -- `name_type` meets its contract: the variable's type, or a refusal at the name.
 -- By what the search for the name finds, whatever variables the scope stands for. Assumes nothing.
-use native.Mathlib.Omega.{arith}
 use Rattle.expressions.proofs.LeafLaws.{name-known, name_unknown}
 use Rattle.expressions.proofs.OriginalLaws.{name-asked}
 use Rattle.expressions.proofs.operands.name_type.Goals as goal
@@ -8,15 +7,8 @@ use Rattle.expressions.proofs.operands.name_type.Goals as goal
 pub find_name-requires : goal.find_name-requires
 find_name-requires c = name-asked c.requires.good c.requires.scoped c.requires.kind
 
-pub refuse_type-requires : goal.refuse_type-requires
-refuse_type-requires c = omega (arith, c.requires.kind.below, c.requires.good.0.few)
+pub returns : goal.returns
+returns c = name-known _ _ _ _ _ c.requires.scoped c.requires.kind _ c.find_name.ensures _ c.in-Some.is
 
-pub returns-in-Is : goal.returns-in-Is
-returns-in-Is c = let found = c in
-    let first = c in
-    name-known _ _ _ _ _ c.requires.scoped c.requires.kind _ c.find_name.ensures _ _ c.in-Is.is
-
-pub returns-in-Unknown : goal.returns-in-Unknown
-returns-in-Unknown c = let found = c in
-    let first = c in
-    name_unknown _ _ _ _ _ c.requires.scoped c.requires.kind _ c.find_name.ensures c.in-Unknown.is _ c.refuse_type.ensures
+pub returns-in_default : goal.returns-in_default
+returns-in_default c = name_unknown _ _ _ _ _ c.requires.scoped c.requires.kind _ c.find_name.ensures c.in_default.is _ c.refuse_type.ensures

@@ -1,7 +1,6 @@
 -- The argument's expression fits the parameter's type, or the type argument is that type.
 -- The laws of the first of both lists. Assumes nothing.
 use native.Mathlib.Omega.{arith}
-use Rattle.syntax.proofs.Lists.{cell_below}
 use Rattle.expressions.proofs.ArgumentLaws.{of-expr, slot-type}
 use Rattle.expressions.proofs.TakeLaws.{as_type, at_parameter, at-variable, variable_type_lem, takes_value, takes_type}
 use Rattle.expressions.proofs.takes.takes_arg.Goals as goal
@@ -11,9 +10,6 @@ reference-requires c = record { record_bytes_in_bounds = at_parameter _ _ c.requ
 
 pub reference-ty-requires : goal.reference-ty-requires
 reference-ty-requires c = record { record_bytes_in_bounds = at-variable _ _ c.requires.argued.good _ c.requires.params_at c.requires.fact.1 _ c.reference.ensures; k_bound = omega arith }
-
-pub slot-requires : goal.slot-requires
-slot-requires c = (omega (arith, (of-expr _ _ _ c.argument_at.ensures _ c.in-Expr.is).1, cell_below _ _ c.requires.argued.good _ _ c.requires.argued.cells c.requires.fact.0), c.requires.argued.room)
 
 pub fits-requires : goal.fits-requires
 fits-requires c = record { expr = (of-expr _ _ _ c.argument_at.ensures _ c.in-Expr.is).0; fact = as_type _ _ c.requires.argued.good _ (slot-type _ _ _ _ _ c.argument_at.ensures c.requires.argued.typed _ _ c.in-Expr.is c.slot.ensures); fact_2 = as_type _ _ c.requires.argued.good _ (variable_type_lem _ _ c.requires.argued.good _ c.requires.params_at c.requires.fact.1 _ c.reference.ensures _ c.reference-ty.ensures) }

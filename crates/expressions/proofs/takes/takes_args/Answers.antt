@@ -1,19 +1,13 @@
 -- Whether what was asked takes all is whether what is left does, a parameter and an argument at a time.
 -- The laws of the first of both lists, and a number that falls with each parameter. Assumes nothing.
 use mathlib.Core.Bool.{not}
-use mathlib.Core.Path.{refl, ap}
+use mathlib.Core.Path.{ap}
 use Rattle.syntax.proofs.Lists.{cell_below, next-list, next_falls}
 use Rattle.expressions.proofs.TakeLaws.{all-no, all_more, arguments_end, params_end_all, next-args-typed}
 use Rattle.expressions.proofs.takes.takes_args.Goals as goal
 
-pub loop-parameter-init : goal.loop-parameter-init
-loop-parameter-init c = (c.requires.params_at, c.requires.argued.cells, c.requires.argued.typed, refl)
-
 pub returns-then-cell-eq-END : goal.returns-then-cell-eq-END
 returns-then-cell-eq-END c = arguments_end _ _ _ _ c.requires.argued.good _ _ c.loop-parameter.invariant.3 c.if-cell-eq-END.true
-
-pub takes_arg-requires : goal.takes_arg-requires
-takes_arg-requires c = record { argued = record { good = c.requires.argued.good; room = c.requires.argued.room; cells = c.loop-parameter.invariant.1; typed = c.loop-parameter.invariant.2 }; params_at = c.loop-parameter.invariant.0; fact = (c.if-cell-eq-END.false, c.loop-parameter-test.true) }
 
 pub returns-then-not-takes_arg : goal.returns-then-not-takes_arg
 returns-then-not-takes_arg c = all-no _ _ _ _ _ _ _ c.loop-parameter.invariant.3 c.takes_arg.ensures (ap not c.if-not-takes_arg.true)

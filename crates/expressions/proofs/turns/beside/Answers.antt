@@ -5,4 +5,4 @@ use Rattle.expressions.proofs.turns.beside.Goals as goal
 
 pub returns : goal.returns
 unfolding beside_at
-returns c = c.load.ensures
+returns c = c.entry.ensures

@@ -5,4 +5,4 @@ use Rattle.expressions.proofs.turns.is_typed.Goals as goal
 
 pub returns : goal.returns
 unfolding in_turn turn_at
-returns c = rw c.load.ensures
+returns c = rw c.entry.ensures

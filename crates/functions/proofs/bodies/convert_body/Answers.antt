@@ -2,37 +2,22 @@
 -- By what the block's answer says, each case a law of BodyLaws. Assumes nothing.
 use mathlib.Core.Path.{ap}
 use native.Mathlib.Omega.{arith}
-use Rattle.functions.proofs.BodyLaws.{block_afforded, body-list, function-small, body_misses, entry-room, body_refused, body-done, body-visited}
+use Rattle.std.proofs.lemmas.Result.{err_from_is_err_and}
+use Rattle.functions.proofs.BodyLaws.{body-list, body_misses, body_refused, body-done, body-visited}
 use Rattle.statements.proofs.HeadLaws.{refused-finished}
 use Rattle.statements.specs.Lent.{finished_with}
 use Rattle.functions.proofs.bodies.convert_body.Goals as goal
 
-pub convert_block-requires : goal.convert_block-requires
-convert_block-requires c = let first = c in
-    let good = c.requires.converting.0.ready.keyed.good in
-    let at = c.requires.function_at.0 in
-    record { converting = (c.requires.converting.0, block_afforded _ _ _ _ c.reference-body.ensures c.requires.converting.1); body_at = body-list good at c.reference-body.ensures; turns = c.requires.turns }
-
-pub misses_return-requires : goal.misses_return-requires
-misses_return-requires c = let first = c in
-    (c.requires.converting.0.ready.keyed.good, c.requires.function_at.0)
-
-pub overflow_cast-result : goal.overflow_cast-result
-overflow_cast-result c = let first = c in
-    omega (arith, function-small c.requires.converting.0.ready.keyed.good c.requires.function_at.0)
+pub convert_block-requires-clause-body_at : goal.convert_block-requires-clause-body_at
+convert_block-requires-clause-body_at c = body-list c.requires.converting.0.ready.keyed.good c.requires.function_at.0 c.reference-body.ensures
 
 pub returns-then-misses_return : goal.returns-then-misses_return
-returns-then-misses_return c = record { body_as = body_misses _ c.reference-body.ensures c.convert_block.ensures.block_as (ap (finished_with _) c.in-Done.is) c.misses_return.ensures c.if-misses_return.true; visits = λ k q. refused-finished k q }
+returns-then-misses_return c = record { body_as = body_misses _ c.reference-body.ensures c.convert_block.ensures.block_as (ap (finished_with _) c.in_ok-convert_block.was) c.misses_return.ensures c.if-misses_return.true; visits = λ k q. refused-finished k q }
 
-pub overflow_cast-f : goal.overflow_cast-f
-overflow_cast-f c = let first = c in
-    omega (arith, function-small c.requires.converting.0.ready.keyed.good c.requires.function_at.0)
+pub returns-in_err-convert_block : goal.returns-in_err-convert_block
+returns-in_err-convert_block c =
+    let p = err_from_is_err_and c.from_residual.result c.from_residual.ensures.1 in
+    rw (p.1, p.2) (record { body_as = body_refused _ c.reference-body.ensures c.convert_block.ensures.block_as (ap (finished_with _) c.in_err-convert_block.was); visits = λ k q. refused-finished k q })
 
-pub add_function-requires : goal.add_function-requires
-add_function-requires c = entry-room _ c.reference-body.ensures c.convert_block.ensures.block_as (ap (finished_with _) c.in-Done.is) c.misses_return.ensures c.requires.function_at.1
-
-pub returns-in-Refused : goal.returns-in-Refused
-returns-in-Refused c = record { body_as = body_refused _ c.reference-body.ensures c.convert_block.ensures.block_as (ap (finished_with _) c.in-Refused.is); visits = λ k q. refused-finished k q }
-
-pub returns-else-misses_return : goal.returns-else-misses_return
-returns-else-misses_return c = record { body_as = body-done _ c.reference-body.ensures c.convert_block.ensures.block_as (ap (finished_with _) c.in-Done.is) c.misses_return.ensures c.if-misses_return.false (omega arith) c.add_function.ensures; visits = body-visited _ _ _ c.reference-body.ensures c.convert_block.ensures.visits (ap (finished_with _) c.in-Done.is) c.add_function.ensures }
+pub returns : goal.returns
+returns c = record { body_as = body-done _ c.reference-body.ensures c.convert_block.ensures.block_as (ap (finished_with _) c.in_ok-convert_block.was) c.misses_return.ensures c.if-misses_return.false (omega arith) c.add_function.ensures; visits = body-visited _ _ _ c.reference-body.ensures c.convert_block.ensures.visits (ap (finished_with _) c.in_ok-convert_block.was) c.add_function.ensures }

@@ -4,5 +4,4 @@ use Rattle.functions.proofs.BodyLaws.{body_mark_lem}
 use Rattle.functions.proofs.bodies.has_body.Goals as goal
 
 pub returns : goal.returns
-returns c = let first = c in
-    body_mark_lem c.requires.0 c.requires.1 c.detail.ensures
+returns c = body_mark_lem c.requires.0 c.requires.1 c.detail.ensures

@@ -7,38 +7,19 @@ use Rattle.functions.proofs.FunctionCases.{main_here, main_next, main_nowhere}
 use Rattle.functions.proofs.functions.find_main.Goals as goal
 
 pub loop-j-init : goal.loop-j-init
-loop-j-init c = (omega arith, main_start _ _)
-
-pub function_at-f-requires : goal.function_at-f-requires
-function_at-f-requires c = let first = c in
-    record { listed = c.requires.listed.0; j_in_bounds = omega (arith, c.loop-j-test.true, c.requires.listed.1) }
-
-pub name_of-requires : goal.name_of-requires
-name_of-requires c = record { good = c.requires.good; function_at = c.function_at-f.ensures.1 }
-
-pub is_main-requires : goal.is_main-requires
-is_main-requires c = c.name_of.ensures.inside
+loop-j-init c = main_start _ _
 
 pub returns-then-is_main : goal.returns-then-is_main
-returns-then-is_main c = let named = c in
-    let at = c in
-    let loop = c in
-    let first = c in record {
-      is = main_here _ _ _ _ c.requires.listed.0 (omega (arith, c.loop-j-test.true, c.requires.listed.1)) _ c.function_at-f.ensures _ _ c.name_of.ensures c.is_main.ensures
-          c.if-is_main.true c.loop-j.invariant.1;
-      function = a_function c.function_at-f.ensures.1;
-    }
+returns-then-is_main c = record {
+  is = main_here _ _ _ _ c.requires.listed.0 (omega (arith, c.loop-j-test.true, c.requires.listed.1)) _ c.function_at-f.ensures _ _ c.name_of.ensures c.is_main.ensures
+      c.if-is_main.true c.loop-j.invariant;
+  function = a_function c.function_at-f.ensures.1;
+}
 
 pub loop-j-preserved : goal.loop-j-preserved
-loop-j-preserved c = let named = c in
-    let at = c in
-    let loop = c in
-    let first = c in (
-      omega arith,
-      main_next _ _ _ _ c.requires.listed.0 (omega (arith, c.loop-j-test.true, c.requires.listed.1)) _ c.function_at-f.ensures _ _ c.name_of.ensures c.is_main.ensures
-          c.if-is_main.false c.loop-j.invariant.1,
-    )
+loop-j-preserved c =
+    main_next _ _ _ _ c.requires.listed.0 (omega (arith, c.loop-j-test.true, c.requires.listed.1)) _ c.function_at-f.ensures _ _ c.name_of.ensures c.is_main.ensures
+    c.if-is_main.false c.loop-j.invariant
 
 pub returns : goal.returns
-returns c = let first = c in
-    record { is = main_nowhere _ _ _ _ c.requires.listed.0 _ c.requires.listed.1 c.loop-j-test.false c.loop-j.invariant.1; function = none_found }
+returns c = record { is = main_nowhere _ _ _ _ c.requires.listed.0 _ c.requires.listed.1 c.loop-j-test.false c.loop-j.invariant; function = none_found }

@@ -1,66 +1,23 @@
 -- All functions are listed and entered by distinct keys, or the first that is not fine is refused: what was asked equals what is left from the place at hand on.
 -- The laws of the turns: the start, one more, a refusal, the end. Assumes nothing.
-use mathlib.Core.Path.{ap, ◌∙◌}
-use native.Mathlib.Omega.{arith}
-use lib.ListN.{length}
-use Rattle.functions.proofs.Listing.{listed-length}
+use Rattle.std.proofs.lemmas.Result.{err_from_is_err_and}
 use Rattle.functions.proofs.FunctionCases.{start_keeps, entered_start, entered-next, entered-refused, entered-done}
 use Rattle.functions.proofs.functions.get_all_functions.Goals as goal
 
-pub list_functions-count-requires : goal.list_functions-count-requires
-list_functions-count-requires c = record { tree_bound = c.requires.good.0.few; tree_in_bounds = c.requires.tree_in_bounds }
-
-pub clear_keys-requires : goal.clear_keys-requires
-clear_keys-requires c = let first = c in
-    (c.requires.good.0.few, omega (arith, c.requires.tree_in_bounds, ap length c.list_functions-count.ensures.0 ∙ listed-length _ _ _ c.requires.good.0 c.requires.tree_in_bounds))
-
 pub loop-j-init : goal.loop-j-init
-loop-j-init c = let first = c in
-    entered_start _ _ _ _ c.requires.good.0 c.requires.tree_in_bounds _ _ c.list_functions-count.ensures c.clear_keys.ensures c.requires.good.1
+loop-j-init c = entered_start _ _ _ _ c.requires.good.0 c.requires.tree_in_bounds _ _ c.list_functions-count.ensures c.clear_keys.ensures c.requires.good.1
 
-pub check_function-requires : goal.check_function-requires
-check_function-requires c = let loop = c in
-    let first = c in
-    record { good = (c.requires.good.0, c.loop-j.invariant.numbered); listed = c.loop-j.invariant.listed; j_in_bounds = (omega (arith, c.loop-j-test.true, c.loop-j.invariant.counted), c.loop-j.invariant.slots) }
-
-pub shape_of-scratch-in-Refused : goal.shape_of-scratch-in-Refused
-shape_of-scratch-in-Refused c = let loop = c in
+pub returns-in_err-check_function : goal.returns-in_err-check_function
+returns-in_err-check_function c =
+    let p = err_from_is_err_and c.from_residual.result c.from_residual.ensures.1 in
     let clears = c.clear_keys.ensures in
     let lists = c.list_functions-count.ensures in
-    let first = c in
-    c.loop-j.invariant.keeps.long ∙ (start_keeps _ _ _ _ c.requires.good.0 c.requires.tree_in_bounds _ _ lists clears).long
-
-pub returns-in-Refused : goal.returns-in-Refused
-returns-in-Refused c = let loop = c in
-    let clears = c.clear_keys.ensures in
-    let lists = c.list_functions-count.ensures in
-    let first = c in
-    entered-refused _ _ _ _ c.requires.good.0 _ _ c.loop-j.invariant c.loop-j-test.true _ c.check_function.ensures _ (start_keeps _ _ _ _ c.requires.good.0 c.requires.tree_in_bounds _ _ lists clears) _ c.in-Refused.is
-
-pub function_at-added-requires : goal.function_at-added-requires
-function_at-added-requires c = let loop = c in
-    record { listed = c.loop-j.invariant.listed; j_in_bounds = omega (arith, c.loop-j-test.true, c.loop-j.invariant.counted) }
-
-pub enter_key-requires : goal.enter_key-requires
-enter_key-requires c = let loop = c in
-    let first = c in
-    record { good = (c.requires.good.0, c.loop-j.invariant.numbered, c.loop-j.invariant.listed.room); function_at = c.function_at-added.ensures.1 }
+    rw (p.1, p.2) (entered-refused _ _ _ _ c.requires.good.0 _ _ c.loop-j.invariant c.loop-j-test.true _ c.check_function.ensures _ (start_keeps _ _ _ _ c.requires.good.0 c.requires.tree_in_bounds _ _ lists clears) _ c.in_err-check_function.was)
 
 pub loop-j-preserved : goal.loop-j-preserved
-loop-j-preserved c = let loop = c in
-    let first = c in
-    entered-next _ _ _ _ c.requires.good.0 _ _ c.loop-j.invariant c.loop-j-test.true _ c.check_function.ensures c.in-Done.is _ c.function_at-added.ensures _ c.enter_key.ensures
-
-pub shape_of-scratch : goal.shape_of-scratch
-shape_of-scratch c = let loop = c in
-    let clears = c.clear_keys.ensures in
-    let lists = c.list_functions-count.ensures in
-    let first = c in
-    c.loop-j.invariant.keeps.long ∙ (start_keeps _ _ _ _ c.requires.good.0 c.requires.tree_in_bounds _ _ lists clears).long
+loop-j-preserved c = entered-next _ _ _ _ c.requires.good.0 _ _ c.loop-j.invariant c.loop-j-test.true _ c.check_function.ensures c.in_ok-check_function.was _ c.function_at-added.ensures _ c.enter_key.ensures
 
 pub returns : goal.returns
-returns c = let loop = c in
-    let clears = c.clear_keys.ensures in
+returns c = let clears = c.clear_keys.ensures in
     let lists = c.list_functions-count.ensures in
-    let first = c in
     entered-done _ _ _ _ c.requires.good.0 _ (start_keeps _ _ _ _ c.requires.good.0 c.requires.tree_in_bounds _ _ lists clears) _ _ c.loop-j.invariant c.loop-j-test.false

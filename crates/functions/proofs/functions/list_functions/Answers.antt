@@ -9,17 +9,12 @@ pub loop-r-init : goal.loop-r-init
 loop-r-init c = listing_start _ _ _ refl
 
 pub loop-r-preserved : goal.loop-r-preserved
-loop-r-preserved c = let loop = c in
-    let first = c in
-    elim c.if-kind-eq-KIND_FUNCTION.branch [
-      | then-kind-eq-KIND_FUNCTION w ↦ rw w.count-is
-          (listing_put _ _ _ _ _ _ c.loop-r.invariant c.loop-r-test.true c.requires.tree_in_bounds _ (w.scratch-is ∙ w.put_word.ensures) (sym c.kind.ensures ∙ w.if-kind-eq-KIND_FUNCTION.true))
-      | else-kind-eq-KIND_FUNCTION w ↦ rw (w.scratch-is, w.count-is)
-          (listing_skip _ _ _ _ _ _ c.loop-r.invariant c.loop-r-test.true (λ e. w.if-kind-eq-KIND_FUNCTION.false (c.kind.ensures ∙ e)))
-    ]
-
-pub shape_of-scratch : goal.shape_of-scratch
-shape_of-scratch c = c.loop-r.invariant.same
+loop-r-preserved c = elim c.if-kind-eq-KIND_FUNCTION.branch [
+  | then-kind-eq-KIND_FUNCTION w ↦ rw w.count-is
+      (listing_put _ _ _ _ _ _ c.loop-r.invariant c.loop-r-test.true c.requires.tree_in_bounds _ (w.scratch-is ∙ w.put_word.ensures) (sym c.kind.ensures ∙ w.if-kind-eq-KIND_FUNCTION.true))
+  | else-kind-eq-KIND_FUNCTION w ↦ rw (w.scratch-is, w.count-is)
+      (listing_skip _ _ _ _ _ _ c.loop-r.invariant c.loop-r-test.true (λ e. w.if-kind-eq-KIND_FUNCTION.false (c.kind.ensures ∙ e)))
+]
 
 pub returns : goal.returns
 returns c = listing_end _ _ _ _ _ _ c.loop-r.invariant c.loop-r-test.false

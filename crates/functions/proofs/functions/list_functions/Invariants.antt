@@ -1,11 +1,7 @@
--- The functions' records stand in scratch. The invariant: those of the records passed are listed, and counted. The measure is what is left.
+-- The functions' records stand in scratch. The invariant: those of the records passed are listed, and counted.
 -- The laws of the list, one record at a time. Assumes nothing.
-use Prim.Native.Nat.{◌-◌}
 use Rattle.functions.proofs.Listing.{Listing}
 use Rattle.functions.proofs.functions.list_functions.Given as goal
 
 abbrev pub invariant-loop-r : goal.invariant-loop-r
-invariant-loop-r l = Listing l.tree l.initial.scratch l.scratch l.n l.r l.count
-
-abbrev pub decreases-loop-r : goal.decreases-loop-r
-decreases-loop-r l = l.n - l.r
+invariant-loop-r l = Listing l.tree l.initial.scratch l.scratch l.r-end l.r l.count

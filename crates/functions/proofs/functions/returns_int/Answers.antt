@@ -4,13 +4,10 @@ use Rattle.functions.proofs.FunctionCases.{returns-none, returns-inside, returns
 use Rattle.functions.proofs.functions.returns_int.Goals as goal
 
 pub returns-then-ty : goal.returns-then-ty
-returns-then-ty c = let first = c in
-    returns-none _ _ c.requires.good _ c.requires.function_at _ c.reference-ty.ensures c.if-ty.true
+returns-then-ty c = returns-none _ _ c.requires.good _ c.requires.function_at _ c.reference-ty.ensures c.if-ty.true
 
 pub form-requires : goal.form-requires
-form-requires c = let first = c in
-    returns-inside _ _ c.requires.good _ c.requires.function_at _ c.reference-ty.ensures c.if-ty.false
+form-requires c = returns-inside _ _ c.requires.good _ c.requires.function_at _ c.reference-ty.ensures c.if-ty.false
 
 pub returns : goal.returns
-returns c = let first = c in
-    returns-type _ _ c.requires.good _ c.requires.function_at _ c.reference-ty.ensures c.if-ty.false _ c.form.ensures
+returns c = returns-type _ _ c.requires.good _ c.requires.function_at _ c.reference-ty.ensures c.if-ty.false _ c.form.ensures

@@ -1,14 +1,14 @@
 -- `statement_returns` and `always_returns` meet their contracts. Their measures are 2r + 1 for a statement and twice what is left of a block's cells: each call goes to what lies below.
 -- Each need is a law of ReturnLaws; the loop's invariant is `ReturnsLeft`, its measure the cell's number. Assumes nothing.
 use native.Mathlib.Omega.{arith}
-use Rattle.functions.proofs.ReturnLaws.{returns_start, returns_end, cell-inside, cell_falls, item_statement, item-less, returns-here, returns-next, statement_inside, a-return, another, first_block, second_block, no_otherwise, first-not, by-second}
+use Rattle.functions.proofs.ReturnLaws.{returns_start, returns_end, cell-inside, cell_falls, item_statement, item-less, returns-here, returns-next, a-return, another, first_block, second_block, no_otherwise, first-not, by-second}
 use Rattle.functions.proofs.returns.+always_returns_statement_returns.Goals as goal
 
 pub always_returns-loop-cell-init : goal.always_returns-loop-cell-init
 always_returns-loop-cell-init t c = returns_start c.requires.1
 
-pub always_returns-reference-requires : goal.always_returns-reference-requires
-always_returns-reference-requires t c = record { record_bytes_in_bounds = cell-inside c.requires.0 c.loop-cell.invariant c.loop-cell-test.true; k_bound = omega arith }
+pub always_returns-reference-requires-clause-record_bytes_in_bounds : goal.always_returns-reference-requires-clause-record_bytes_in_bounds
+always_returns-reference-requires-clause-record_bytes_in_bounds t c = cell-inside c.requires.0 c.loop-cell.invariant c.loop-cell-test.true
 
 pub always_returns-statement_returns-requires : goal.always_returns-statement_returns-requires
 always_returns-statement_returns-requires t c = let good = c.requires.0 in
@@ -29,31 +29,19 @@ always_returns-loop-cell-preserved t c = returns-next c.requires.0 c.loop-cell.i
 pub always_returns-returns : goal.always_returns-returns
 always_returns-returns t c = returns_end c.requires.0 c.loop-cell.invariant c.loop-cell-test.false
 
-pub statement_returns-kind-node-requires : goal.statement_returns-kind-node-requires
-statement_returns-kind-node-requires t c = statement_inside c.requires.0 c.requires.1
-
 pub statement_returns-returns-then-node-eq-KIND_RETURN : goal.statement_returns-returns-then-node-eq-KIND_RETURN
 statement_returns-returns-then-node-eq-KIND_RETURN t c = a-return c.requires.0 c.requires.1 c.kind-node.ensures c.if-node-eq-KIND_RETURN.true
 
 pub statement_returns-returns-then-node-ne-KIND_IF : goal.statement_returns-returns-then-node-ne-KIND_IF
 statement_returns-returns-then-node-ne-KIND_IF t c = another c.requires.0 c.requires.1 c.kind-node.ensures c.if-node-eq-KIND_RETURN.false c.if-node-ne-KIND_IF.true
 
-pub statement_returns-detail-requires : goal.statement_returns-detail-requires
-statement_returns-detail-requires t c = statement_inside c.requires.0 c.requires.1
-
 pub statement_returns-returns-then-detail-ne1 : goal.statement_returns-returns-then-detail-ne1
 statement_returns-returns-then-detail-ne1 t c = no_otherwise c.requires.0 c.requires.1 c.kind-node.ensures c.if-node-ne-KIND_IF.false c.detail.ensures c.if-detail-ne1.true
-
-pub statement_returns-reference-requires : goal.statement_returns-reference-requires
-statement_returns-reference-requires t c = record { record_bytes_in_bounds = statement_inside c.requires.0 c.requires.1; k_bound = omega arith }
 
 pub statement_returns-always_returns-requires : goal.statement_returns-always_returns-requires
 statement_returns-always_returns-requires t c = let good = c.requires.0 in
     let w = first_block good c.requires.1 c.kind-node.ensures c.if-node-ne-KIND_IF.false c.reference.ensures in
     (omega (arith, w.0, c.decreases), (good, w.1))
-
-pub statement_returns-reference-requires-then-always_returns : goal.statement_returns-reference-requires-then-always_returns
-statement_returns-reference-requires-then-always_returns t c = record { record_bytes_in_bounds = statement_inside c.requires.0 c.requires.1; k_bound = omega arith }
 
 pub statement_returns-always_returns-requires-then-always_returns : goal.statement_returns-always_returns-requires-then-always_returns
 statement_returns-always_returns-requires-then-always_returns t c = let good = c.requires.0 in

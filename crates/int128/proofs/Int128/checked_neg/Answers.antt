@@ -1,5 +1,5 @@
 -- `int128::Int128::checked_neg` meets its contract: 0 + !a + 1 is -a.
--- What `sum`, `from_u64` and `not` ensure, and `Complement.minus`.
+-- What `sum`, `from` and `not` ensure, and `Complement.minus`.
 use mathlib.Core.Path.{◌∙◌, ap, ap₂}
 use lib.IntN.{ℤ, pos, neg_ℤ, ◌+ℤ◌, +ℤ_idl}
 use Rattle.int128.specs.Value.{bits_of, value_of}
@@ -12,5 +12,5 @@ use Rattle.int128.proofs.Int128.checked_neg.Goals as goal
 pub returns : goal.returns
 returns c = let s = c.args in
     c.sum.ensures
-    ∙ ap₂ (λ (y z : ℤ). exact (y +ℤ z +ℤ pos 1)) c.from_u64.ensures c.not.ensures
+    ∙ ap₂ (λ (y z : ℤ). exact (y +ℤ z +ℤ pos 1)) c.from.ensures c.not.ensures
     ∙ ap exact (minus (pos 0) (bits_of s.self) (fits s.self (search rules)) ∙ +ℤ_idl (neg_ℤ (value_of s.self)))

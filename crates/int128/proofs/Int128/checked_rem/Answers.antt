@@ -23,8 +23,8 @@ pub div_rem-both-requires : goal.div_rem-both-requires
 div_rem-both-requires c = let z = c in
     positive (bits_of c.magnitude-d.result) (eqb-false (bits_of c.magnitude-d.result) 0 (sym c.is_zero.ensures ∙ c.if-is_zero.false))
 
-pub returns-in-Value : goal.returns-in-Value
-returns-in-Value c =
+pub returns : goal.returns
+returns c =
     let divisor : c.is_zero.result ≡ eqb (nat_abs (value_of c.args.other)) 0 = c.is_zero.ensures ∙ ap (λ (k : ℕ). eqb k 0) c.magnitude-d.ensures in
     let sized : Sized c.args.self = search rules in
     let quotient_is : checked_of c.signed.result ≡ div_of (value_of c.args.self) (value_of c.args.other) = let z = c in
@@ -37,12 +37,12 @@ returns-in-Value c =
     let z = c in
     let s = c.args in
     let d = c.div_rem-both in
-    c.signed-in-Value.ensures
-    ∙ rem_is (value_of s.self) (value_of s.other) _ c.negative-in-Value.result (bits_of d.result.remainder) (sym quotient_is ∙ ap checked_of c.in-Value.is) (value_mag s.self sized) c.negative-in-Value.ensures
+    c.signed-2.ensures
+    ∙ rem_is (value_of s.self) (value_of s.other) _ c.negative-3.result (bits_of d.result.remainder) (sym quotient_is ∙ ap checked_of c.in_ok-signed.was) (value_mag s.self sized) c.negative-3.ensures
     (d.ensures.1 ∙ ap₂ ◌%◌ c.magnitude.ensures c.magnitude-d.ensures)
 
-pub returns-in-Nothing : goal.returns-in-Nothing
-returns-in-Nothing c =
+pub returns-in_err-signed : goal.returns-in_err-signed
+returns-in_err-signed c =
     let divisor : c.is_zero.result ≡ eqb (nat_abs (value_of c.args.other)) 0 = c.is_zero.ensures ∙ ap (λ (k : ℕ). eqb k 0) c.magnitude-d.ensures in
     let quotient_is : checked_of c.signed.result ≡ div_of (value_of c.args.self) (value_of c.args.other) = let z = c in
     let s = c.args in
@@ -53,4 +53,4 @@ returns-in-Nothing c =
     let q = c in
     let z = c in
     let s = c.args in
-    rem_none (value_of s.self) (value_of s.other) (sym (ap checked_of c.in-Nothing.is) ∙ quotient_is)
+    ap checked_of c.from_residual.ensures ∙ rem_none (value_of s.self) (value_of s.other) (sym (ap checked_of c.in_err-signed.was) ∙ quotient_is)

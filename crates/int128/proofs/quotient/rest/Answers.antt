@@ -12,16 +12,16 @@ use Rattle.int128.proofs.quotient.rest.Goals as goal
 
 pub sub_bits-requires : goal.sub_bits-requires
 sub_bits-requires c = let s = c in
-    subst (λ (k : ℕ). k ≤ bits_of c.args.n) (sym (subst (IsProduct _) c.in-Fits.is c.mul_word.ensures)) (product_le (bits_of c.args.n) (bits_of c.args.d) c.args.q c.requires.1)
+    subst (λ (k : ℕ). k ≤ bits_of c.args.n) (sym (subst (IsProduct _) c.in-Some.is c.mul_word.ensures)) (product_le (bits_of c.args.n) (bits_of c.args.d) c.args.q c.requires.1)
 
-pub returns-in-Fits : goal.returns-in-Fits
-returns-in-Fits c = let s = c in
+pub returns-in-Some : goal.returns-in-Some
+returns-in-Some c = let s = c in
     c.sub_bits.ensures
-    ∙ ap (λ (k : ℕ). bits_of c.args.n - k) (subst (IsProduct _) c.in-Fits.is c.mul_word.ensures)
+    ∙ ap (λ (k : ℕ). bits_of c.args.n - k) (subst (IsProduct _) c.in-Some.is c.mul_word.ensures)
     ∙ left_over (bits_of c.args.n) (bits_of c.args.d) c.args.q c.requires.1
 
-pub returns-in-Over : goal.returns-in-Over
-returns-in-Over c = let s = c in
+pub returns-in-None : goal.returns-in-None
+returns-in-None c = let s = c in
     absurd
     (lt_irrefl (bits_of c.args.n)
-    (lt_of_lt_of_le (fits c.args.n (search rules)) (le_trans (subst (IsProduct _) c.in-Over.is c.mul_word.ensures) (product_le (bits_of c.args.n) (bits_of c.args.d) c.args.q c.requires.1))))
+    (lt_of_lt_of_le (fits c.args.n (search rules)) (le_trans (subst (IsProduct _) c.in-None.is c.mul_word.ensures) (product_le (bits_of c.args.n) (bits_of c.args.d) c.args.q c.requires.1))))

@@ -7,24 +7,24 @@ use Rattle.ir.proofs.LinkLaws.{walk_below}
 use Rattle.ir.proofs.pool.float_id.Goals as goal
 
 pub overflow_cast-result : goal.overflow_cast-result
-overflow_cast-result c = omega (arith, walk_below c.walk_float.ensures _ c.in-At.is, c.float_head-last.ensures.1, c.requires.0.floats_in, c.requires.0.small)
+overflow_cast-result c = omega (arith, walk_below c.walk_float.ensures _ c.in-Some.is, c.float_head-last.ensures.1, c.requires.0.floats_in, c.requires.0.small)
 
-pub returns-in-At : goal.returns-in-At
-returns-in-At c = float_at _ _ c.entry_bits-e.ensures _ _ _ _ _ _ _ _ c.requires.0
+pub returns-in-Some : goal.returns-in-Some
+returns-in-Some c = float_at _ _ c.entry_bits-e.ensures _ _ _ _ _ _ _ _ c.requires.0
     c.low.ensures
     c.high.ensures
     c.mark.ensures
     c.float_bucket-b.ensures
     c.float_head-last.ensures
     c.walk_float.ensures
-    _ _ c.in-At.is refl refl
+    _ _ c.in-Some.is refl refl
 
-pub returns-in-Nothing : goal.returns-in-Nothing
-returns-in-Nothing c = float_nowhere _ _ c.entry_bits-e.ensures _ _ _ _ _ _ _ _ c.requires.0
+pub returns-in-None : goal.returns-in-None
+returns-in-None c = float_nowhere _ _ c.entry_bits-e.ensures _ _ _ _ _ _ _ _ c.requires.0
     c.low.ensures
     c.high.ensures
     c.mark.ensures
     c.float_bucket-b.ensures
     c.float_head-last.ensures
     c.walk_float.ensures
-    _ _ c.requires.1 c.in-Nothing.is c.add_float.ensures
+    _ _ c.requires.1 c.in-None.is c.add_float.ensures

@@ -7,21 +7,21 @@ pub returns-in-Var : goal.returns-in-Var
 unfolding tag bool_number
 returns-in-Var c = rw c.in-Var.is
 
-pub returns-then-unsigned : goal.returns-then-unsigned
+pub returns-in-true-true : goal.returns-in-true-true
 unfolding tag bool_number
-returns-then-unsigned c = rw (c.in-Int.is, c.if-short.true, c.if-unsigned.true)
+returns-in-true-true c = rw (c.in-Int.is, c.in-true-true.is-0, c.in-true-true.is-1)
 
-pub returns-else-unsigned : goal.returns-else-unsigned
+pub returns-in-true-false : goal.returns-in-true-false
 unfolding tag bool_number
-returns-else-unsigned c = rw (c.in-Int.is, c.if-short.true, c.if-unsigned.false)
+returns-in-true-false c = rw (c.in-Int.is, c.in-true-false.is-0, c.in-true-false.is-1)
 
-pub returns-then-unsigned-2 : goal.returns-then-unsigned-2
+pub returns-in-false-true : goal.returns-in-false-true
 unfolding tag bool_number
-returns-then-unsigned-2 c = rw (c.in-Int.is, c.if-short.false, c.if-unsigned-2.true)
+returns-in-false-true c = rw (c.in-Int.is, c.in-false-true.is-0, c.in-false-true.is-1)
 
-pub returns-else-unsigned-2 : goal.returns-else-unsigned-2
+pub returns-in-false-false : goal.returns-in-false-false
 unfolding tag bool_number
-returns-else-unsigned-2 c = rw (c.in-Int.is, c.if-short.false, c.if-unsigned-2.false)
+returns-in-false-false c = rw (c.in-Int.is, c.in-false-false.is-0, c.in-false-false.is-1)
 
 pub returns-in-Float : goal.returns-in-Float
 unfolding tag bool_number

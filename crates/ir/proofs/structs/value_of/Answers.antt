@@ -1,11 +1,18 @@
 -- An operand's value, case by case; an Int's is its bits again.
 -- Each arm by what its match says of the operand. Assumes nothing.
-use mathlib.Core.Path.{sym}
+use mathlib.Core.Path.{◌≡◌, refl, sym}
+use mathlib.Core.Bool.{Bool, true, false}
 use mir.Syntax.{w64}
+use mir.Val.{bool_byte}
 use mir.Facts.{of_z-to_z}
 use Rattle.conversion.specs.Written.{operand_value, bool_number}
 use borrow.Author.Rules.{rules}
 use Rattle.ir.proofs.structs.value_of.Goals as goal
+
+byte_is : (b : Bool) → bool_byte b ≡ bool_number b
+unfolding bool_number
+byte_is true = refl
+byte_is false = refl
 
 pub returns-in-Var : goal.returns-in-Var
 unfolding operand_value bool_number
@@ -19,13 +26,9 @@ pub returns-in-Float : goal.returns-in-Float
 unfolding operand_value bool_number
 returns-in-Float c = rw c.in-Float.is
 
-pub returns-then-b : goal.returns-then-b
+pub returns-in-Bool : goal.returns-in-Bool
 unfolding operand_value bool_number
-returns-then-b c = rw (c.in-Bool.is, c.if-b.true)
-
-pub returns-else-b : goal.returns-else-b
-unfolding operand_value bool_number
-returns-else-b c = rw (c.in-Bool.is, c.if-b.false)
+returns-in-Bool c = rw c.in-Bool.is (byte_is c.in-Bool.b)
 
 pub returns-in-DataAddress : goal.returns-in-DataAddress
 unfolding operand_value bool_number

@@ -1,11 +1,8 @@
 -- A walk along the chain of type r's bucket, for so many entries at most. The invariant: no type from the place at hand on is like type r.
--- By the laws of chains at the head, at each link and at the end; the measure is the place. Assumes nothing.
+-- By the laws of chains at the head, at each link and at the end. Assumes nothing.
 use Rattle.laws.specs.Chain.{Met}
 use Rattle.judge.specs.Equal.{alike, type_bucket}
 use Rattle.judge.proofs.equal.may_have_alike.Given as goal
 
-abbrev pub invariant-loop-at : goal.invariant-loop-at
-invariant-loop-at l = Met (alike l.tree l.text) (type_bucket l.tree l.text l.types) l.r l.at
-
-abbrev pub decreases-loop-at : goal.decreases-loop-at
-decreases-loop-at l = l.at
+abbrev pub invariant-loop : goal.invariant-loop
+invariant-loop l = Met (alike l.tree l.text) (type_bucket l.tree l.text l.types) l.r l.at

@@ -1,34 +1,23 @@
 -- The functions in chains, one of the list after the other. The invariant: those before the place at hand are chained, and no other bytes written.
--- By the laws of the heads that are cleared and of all functions passed; the measure is what is left of the list. Assumes nothing.
-use mathlib.Core.Path.{◌∙◌}
+-- By the laws of the heads that are cleared and of all functions passed. Assumes nothing.
 use native.Mathlib.Omega.{arith}
 use Rattle.keys.proofs.ChainLaws.{keeps_then, keeps_heads, chaining_none, passing_none, chained-below, passing_more, all-chained}
 use Rattle.keys.proofs.keys.chain_functions.Goals as goal
 
 pub loop-j-init : goal.loop-j-init
-loop-j-init c = (omega arith, passing_none _ _ _ (chaining_none _ _ _ _ _ c.requires.0 c.clear_run.ensures c.clear_run-2.ensures))
+loop-j-init c = passing_none _ _ _ (chaining_none _ _ _ _ _ c.requires.0 c.clear_run.ensures c.clear_run-2.ensures)
 
 pub function_at-f-requires : goal.function_at-f-requires
-function_at-f-requires c = record { listed = c.loop-j.invariant.1.chaining.listed; j_in_bounds = omega (arith, c.loop-j-test.true, c.requires.1) }
+function_at-f-requires c = record { listed = c.loop-j.invariant.chaining.listed; j_in_bounds = omega (arith, c.loop-j-test.true, c.requires.1) }
 
 pub chain_function-requires : goal.chain_function-requires
 chain_function-requires c = let found = c.function_at-f.ensures in
-    (chained-below _ _ _ _ _ c.loop-j.invariant.1 _ (omega (arith, c.loop-j-test.true, c.requires.1)) found.0, found.1)
-
-pub overflow_add-j : goal.overflow_add-j
-overflow_add-j c = omega (arith, c.loop-j-test.true)
-
-pub loop-j-smaller : goal.loop-j-smaller
-loop-j-smaller c = omega (arith, c.loop-j-test.true)
+    (chained-below _ _ _ _ _ c.loop-j.invariant _ (omega (arith, c.loop-j-test.true, c.requires.1)) found.0, found.1)
 
 pub loop-j-preserved : goal.loop-j-preserved
 loop-j-preserved c = let found = c.function_at-f.ensures in
-    let chained = c in
-    (omega (arith, c.loop-j-test.true), passing_more _ _ _ _ _ _ _ c.loop-j.invariant.1 (omega (arith, c.loop-j-test.true, c.requires.1)) found.0 found.1 c.chain_function.ensures.chaining c.chain_function.ensures.chain_keeps)
-
-pub shape_of-scratch : goal.shape_of-scratch
-shape_of-scratch c = c.loop-j.invariant.1.keeps.long ∙ c.clear_run-2.ensures.long ∙ c.clear_run.ensures.long
+    passing_more _ _ _ _ _ _ _ c.loop-j.invariant (omega (arith, c.loop-j-test.true, c.requires.1)) found.0 found.1 c.chain_function.ensures.chaining c.chain_function.ensures.chain_keeps
 
 pub returns : goal.returns
 returns c = let inv = c.loop-j.invariant in
-    record { keyed = all-chained _ _ _ _ _ inv.1 (omega (arith, inv.0, c.loop-j-test.false, c.requires.1)); chain_keeps = keeps_then _ _ _ _ (keeps_heads _ _ _ _ c.clear_run.ensures c.clear_run-2.ensures) inv.1.keeps }
+    record { keyed = all-chained _ _ _ _ _ inv (omega (arith, c.loop-j.auto.j-end, c.loop-j-test.false, c.requires.1)); chain_keeps = keeps_then _ _ _ _ (keeps_heads _ _ _ _ c.clear_run.ensures c.clear_run-2.ensures) inv.keeps }

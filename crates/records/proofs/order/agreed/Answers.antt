@@ -11,10 +11,10 @@ pub returns-then-same_text : goal.returns-then-same_text
 returns-then-same_text c = agrees_whole _ _ _ _ _ _ _ c.reach-x.ensures c.reach-y.ensures _ c.same_text.ensures c.if-same_text.true
 
 pub common-bytes-requires : goal.common-bytes-requires
-common-bytes-requires c = (λ h. least-inside _ _ _ _ _ _ _ c.reach-x.ensures c.reach-y.ensures _ c.least.ensures h, rw (common-least_of _ _ _ _ _ _ _ c.reach-x.ensures c.reach-y.ensures _ c.least.ensures) at c.requires)
+common-bytes-requires c = (λ h. least-inside _ _ _ _ _ _ _ c.reach-x.ensures c.reach-y.ensures _ c.min.ensures h, rw (common-least_of _ _ _ _ _ _ _ c.reach-x.ensures c.reach-y.ensures _ c.min.ensures) at c.requires)
 
 pub overflow_cast-result-2 : goal.overflow_cast-result-2
-overflow_cast-result-2 c = omega (arith, common-fits _ _ _ _ _ _ _ c.reach-x.ensures c.reach-y.ensures _ _ c.least.ensures c.common-bytes.ensures, c.ranges.n)
+overflow_cast-result-2 c = omega (arith, common-fits _ _ _ _ _ _ _ c.reach-x.ensures c.reach-y.ensures _ _ c.min.ensures c.common-bytes.ensures, c.ranges.n)
 
 pub returns : goal.returns
-returns c = agrees _ _ _ _ _ _ _ c.reach-x.ensures c.reach-y.ensures _ _ c.least.ensures c.common-bytes.ensures
+returns c = agrees _ _ _ _ _ _ _ c.reach-x.ensures c.reach-y.ensures _ _ c.min.ensures c.common-bytes.ensures

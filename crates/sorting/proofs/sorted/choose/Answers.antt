@@ -11,4 +11,4 @@ pub returns-then-left_shared-right_shared : goal.returns-then-left_shared-right_
 returns-then-left_shared-right_shared c = right-further _ _ _ _ c.requires.behind_one c.if-left_shared-right_shared.true
 
 pub compare-requires : goal.compare-requires
-compare-requires c = record { a_bound = c.requires.a_bound; from_bound = omega (arith, c.index.ensures, agree_so_far _ _ _ _ c.requires.behind_one c.if-right_shared-left_shared.false c.if-left_shared-right_shared.false) }
+compare-requires c = record { a_bound = c.requires.a_bound; from_bound = omega (arith, agree_so_far _ _ _ _ c.requires.behind_one c.if-right_shared-left_shared.false c.if-left_shared-right_shared.false) }

@@ -1,18 +1,17 @@
 -- The texts of two records compared, by their words A and B.
 -- By the laws of the texts of two records, over what the calls ensure. Assumes nothing.
-use mathlib.Core.Path.{◌∙◌}
 use native.Mathlib.Omega.{arith}
 use Rattle.sorting.proofs.AheadLaws.{compared-from, shared-fits, ends-known, compared}
 use Rattle.sorting.proofs.sorted.compare_texts.Goals as goal
 
 pub common_from-shared-requires : goal.common_from-shared-requires
-common_from-shared-requires c = compared-from _ _ _ _ _ _ _ _ _ _ _ (c.index-i.ensures ∙ c.word.ensures) (c.index.ensures ∙ c.word-2.ensures) (c.index-j.ensures ∙ c.word-3.ensures) (c.index-2.ensures ∙ c.word-4.ensures) c.reach-x.ensures c.reach-y.ensures c.least.ensures _ c.requires.from_bound
+common_from-shared-requires c = compared-from _ _ _ _ _ _ _ _ _ _ _ c.word-i.ensures c.word.ensures c.word-j.ensures c.word-2.ensures c.reach-x.ensures c.reach-y.ensures c.min.ensures _ c.requires.from_bound
 
 pub comes_first-requires : goal.comes_first-requires
-comes_first-requires c = ends-known _ _ _ _ _ _ _ _ _ _ _ (c.index-i.ensures ∙ c.word.ensures) (c.index.ensures ∙ c.word-2.ensures) (c.index-j.ensures ∙ c.word-3.ensures) (c.index-2.ensures ∙ c.word-4.ensures) c.reach-x.ensures c.reach-y.ensures c.least.ensures _ c.common_from-shared.ensures
+comes_first-requires c = ends-known _ _ _ _ _ _ _ _ _ _ _ c.word-i.ensures c.word.ensures c.word-j.ensures c.word-2.ensures c.reach-x.ensures c.reach-y.ensures c.min.ensures _ c.common_from-shared.ensures
 
 pub overflow_cast-result : goal.overflow_cast-result
-overflow_cast-result c = omega (arith, shared-fits _ _ _ _ _ _ _ _ _ _ _ (c.index-i.ensures ∙ c.word.ensures) (c.index.ensures ∙ c.word-2.ensures) (c.index-j.ensures ∙ c.word-3.ensures) (c.index-2.ensures ∙ c.word-4.ensures) c.reach-x.ensures c.reach-y.ensures c.least.ensures _ c.common_from-shared.ensures, c.index.ensures)
+overflow_cast-result c = omega (arith, shared-fits _ _ _ _ _ _ _ _ _ _ _ c.word-i.ensures c.word.ensures c.word-j.ensures c.word-2.ensures c.reach-x.ensures c.reach-y.ensures c.min.ensures _ c.common_from-shared.ensures)
 
 pub returns : goal.returns
-returns c = compared _ _ _ _ _ _ _ _ _ _ _ (c.index-i.ensures ∙ c.word.ensures) (c.index.ensures ∙ c.word-2.ensures) (c.index-j.ensures ∙ c.word-3.ensures) (c.index-2.ensures ∙ c.word-4.ensures) c.reach-x.ensures c.reach-y.ensures c.least.ensures _ c.common_from-shared.ensures _ c.comes_first.ensures
+returns c = compared _ _ _ _ _ _ _ _ _ _ _ c.word-i.ensures c.word.ensures c.word-j.ensures c.word-2.ensures c.reach-x.ensures c.reach-y.ensures c.min.ensures _ c.common_from-shared.ensures _ c.comes_first.ensures

@@ -1,12 +1,7 @@
--- The lowest record that repeats a key. The invariant: it is that of the entries looked at, or the bound.
--- By the laws of such entries; the measure is what is left. Assumes nothing.
-use Prim.Native.Nat.{◌-◌, ◌≤◌}
+-- The lowest record that repeats a key. The invariant: it is that of the entries looked at, or the bound. Assumes nothing.
 use Rattle.sorting.specs.Sorted.{record_key}
 use Rattle.sorting.proofs.GroupLaws.{Looked}
 use Rattle.sorting.proofs.sorted.first_repeated.Given as goal
 
 abbrev pub invariant-loop-i : goal.invariant-loop-i
-invariant-loop-i l = (1 ≤ l.i) × Looked (record_key l.tree l.text) l.scratch l.at l.m l.bound l.i l.lowest
-
-abbrev pub decreases-loop-i : goal.decreases-loop-i
-decreases-loop-i l = l.m - l.i
+invariant-loop-i l = Looked (record_key l.tree l.text) l.scratch l.at l.m l.bound l.i l.lowest

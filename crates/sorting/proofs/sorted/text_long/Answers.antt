@@ -1,8 +1,7 @@
 -- How many bytes a record's text has, by its words A and B.
 -- From what the words and the reach ensure. Assumes nothing.
-use mathlib.Core.Path.{◌∙◌}
 use Rattle.sorting.proofs.AheadLaws.{long-told}
 use Rattle.sorting.proofs.sorted.text_long.Goals as goal
 
 pub returns : goal.returns
-returns c = long-told _ _ _ _ _ _ (c.index.ensures ∙ c.word.ensures) (c.index-2.ensures ∙ c.word-2.ensures) c.reach.ensures
+returns c = long-told _ _ _ _ _ _ c.word.ensures c.word-2.ensures c.reach.ensures

@@ -1,18 +1,33 @@
 -- The functions that convert statements and blocks meet their contracts. Their measures are 3r + 2 for a statement, 3r + 1 for an If, While or For, and three times the first cell's place for a block: a call goes to a lower record, or down this order.
 -- Each need is a law of BlockLaws, BlockParts or BlockTurns; the loop's invariant is `BlockLeft`, its measure the cell's place. Assumes nothing.
+use Rattle.std.proofs.lemmas.Result.{err_from_is_err_and}
 use Rattle.ir.specs.Counted.{counted}
 use Rattle.ir.proofs.LentLaws.{in_words}
 use Rattle.statements.specs.Lent.{stated, finished_with}
-use mathlib.Core.Path.{refl, ap, sym, ◌∙◌}
+use mathlib.Core.Path.{◌≡◌, refl, ap, sym, ◌∙◌}
+use mathlib.Core.List.{List}
+use Prim.Native.Nat.{ℕ}
+use Rattle.std.specs.Prelude.{Result, Ok, Err}
+use Rattle.records.specs.declared.convert_error.ConvertError.{ConvertError}
+use Rattle.scope.specs.declared.Scope.{Scope}
+use Rattle.statements.specs.Answers.{stated_with}
 use native.Mathlib.Omega.{arith}
 use Rattle.records.proofs.GoodLaws.{if_detail}
 use Rattle.statements.proofs.StatedLaws.{finished_converting}
 use Rattle.statements.proofs.BlockLaws.{comment_converting, comment_afforded, last-kind, commented_plain, commented_jump, commented_if, commented_while, commented_for}
 use Rattle.statements.proofs.BlockParts.{while_list, while_stop, while_converting, while_afforded, while_body-stop, while_room, while_next, for_list, for_stop, for_converting, for_afforded, for_body-stop, for_room, for_next, then_list, other-list, if-stop, then_afforded, then_stop, if-room, if-next, middle_room, other_converting, other_afforded, other-stop, other-room, if_else_next}
 use Rattle.statements.proofs.HeadLaws.{refused-finished}
-use Rattle.statements.proofs.BlockVisits.{comment_fresh, comment_small, comment_in_turn, plain_visited, jump_visited, stated-visited, refused-visited, begun-in_turn, head_visited, while_visited, if-visited, middle_turns, else_visited, for_head-visited, for_visited}
+use Rattle.statements.proofs.BlockVisits.{comment_fresh, comment_small, comment_in_turn, plain_visited, jump_visited, stated-visited, begun-in_turn, head_visited, while_visited, if-visited, middle_turns, else_visited, for_head-visited, for_visited}
 use Rattle.statements.proofs.BlockTurns.{block_start, block_done, block_visited, cell-low, block_less, turn_statement, turn_afforded, turn-stop, turn-next}
+use Rattle.statements.proofs.blocks.+convert_block_convert_for_loop_convert_if_convert_statement_convert_while_loop.Goals.{convert_if-then-has_otherwise+in_ok-convert_block-2, convert_if-else-has_otherwise}
 use Rattle.statements.proofs.blocks.+convert_block_convert_for_loop_convert_if_convert_statement_convert_while_loop.Goals as goal
+
+-- a statement with blocks answers what they answer, and leaves the scope as it was
+done-stated : (k : List ℕ) (sc : Scope) {d : Result (Unit {0}) ConvertError} → d ≡ Ok tt → stated k (Ok sc) ≡ stated_with sc (finished_with k d)
+done-stated k sc e = ap (λ (y : Result (Unit {0}) ConvertError). stated_with sc (finished_with k y)) (sym e)
+
+stop-stated : (k : List ℕ) (sc : Scope) {d : Result (Unit {0}) ConvertError} {z : ConvertError} → d ≡ Err z → stated k (Err z) ≡ stated_with sc (finished_with k d)
+stop-stated k sc e = ap (λ (y : Result (Unit {0}) ConvertError). stated_with sc (finished_with k y)) (sym e)
 
 pub convert_block-loop-cell-init : goal.convert_block-loop-cell-init
 convert_block-loop-cell-init t c = (block_start c.requires.converting.0 c.requires.converting.1 c.requires.body_at c.requires.turns, refl)
@@ -23,17 +38,8 @@ convert_block-reference-r-requires t c = record { record_bytes_in_bounds = omega
 pub convert_block-convert_statement-requires : goal.convert_block-convert_statement-requires
 convert_block-convert_statement-requires t c = let h = turn_statement c.requires.converting.0 c.requires.converting.1 c.requires.body_at c.loop-cell.invariant.0 c.loop-cell-test.true c.reference-r.ensures in (omega (arith, h.0, c.decreases), ((c.loop-cell.invariant.0.converting, turn_afforded c.requires.converting.0 c.requires.converting.1 c.requires.body_at c.loop-cell.invariant.0 c.loop-cell-test.true c.reference-r.ensures), (h.1, c.loop-cell.invariant.0.visited.turns)))
 
-pub convert_block-shape_of-arena-in-Refused : goal.convert_block-shape_of-arena-in-Refused
-convert_block-shape_of-arena-in-Refused t c = omega (arith, c.loop-cell.invariant.0.long, c.loop-cell.invariant.0.stays.long, c.loop-cell.invariant.1, c.arena-1.given)
-
-pub convert_block-shape_of-scratch-in-Refused : goal.convert_block-shape_of-scratch-in-Refused
-convert_block-shape_of-scratch-in-Refused t c = omega (arith, c.loop-cell.invariant.0.long, c.loop-cell.invariant.0.stays.long, c.loop-cell.invariant.1, c.scratch-1.given)
-
-pub convert_block-shape_of-k-in-Refused : goal.convert_block-shape_of-k-in-Refused
-convert_block-shape_of-k-in-Refused t c = omega (arith, c.loop-cell.invariant.0.long, c.loop-cell.invariant.0.stays.long, c.loop-cell.invariant.1, c.k-1.given)
-
-pub convert_block-returns-in-Refused : goal.convert_block-returns-in-Refused
-convert_block-returns-in-Refused t c = record { block_as = turn-stop c.requires.converting.0 c.requires.converting.1 c.requires.body_at c.loop-cell.invariant.0 c.loop-cell-test.true c.reference-r.ensures c.convert_statement.ensures.statement_as (ap (stated _) c.in-Refused.is); visits = λ k q. refused-finished k q }
+pub convert_block-returns-in_err-at : goal.convert_block-returns-in_err-at
+convert_block-returns-in_err-at t c = let p = err_from_is_err_and c.from_residual.result c.from_residual.ensures.1 in rw (p.1, p.2) (record { block_as = turn-stop c.requires.converting.0 c.requires.converting.1 c.requires.body_at c.loop-cell.invariant.0 c.loop-cell-test.true c.reference-r.ensures c.convert_statement.ensures.statement_as (ap (stated _) c.in_err-at.was); visits = λ k q. refused-finished k q })
 
 pub convert_block-next_cell-cell-requires : goal.convert_block-next_cell-cell-requires
 convert_block-next_cell-cell-requires t c = cell-low c.requires.converting.0 c.requires.converting.1 c.requires.body_at c.loop-cell.invariant.0 c.loop-cell-test.true
@@ -42,16 +48,7 @@ pub convert_block-loop-cell-smaller : goal.convert_block-loop-cell-smaller
 convert_block-loop-cell-smaller t c = block_less c.requires.converting.0 c.requires.converting.1 c.requires.body_at c.loop-cell.invariant.0 c.loop-cell-test.true _ c.next_cell-cell.ensures
 
 pub convert_block-loop-cell-preserved : goal.convert_block-loop-cell-preserved
-convert_block-loop-cell-preserved t c = (turn-next c.requires.converting.0 c.requires.converting.1 c.requires.body_at c.loop-cell.invariant.0 c.loop-cell-test.true c.reference-r.ensures c.convert_statement.ensures.statement_as (ap (stated _) c.in-Done.is) c.convert_statement.ensures.visits _ c.next_cell-cell.ensures, omega (arith, c.loop-cell.invariant.1, c.k-1.given))
-
-pub convert_block-shape_of-arena : goal.convert_block-shape_of-arena
-convert_block-shape_of-arena t c = c.loop-cell.invariant.0.long
-
-pub convert_block-shape_of-scratch : goal.convert_block-shape_of-scratch
-convert_block-shape_of-scratch t c = c.loop-cell.invariant.0.stays.long
-
-pub convert_block-shape_of-k : goal.convert_block-shape_of-k
-convert_block-shape_of-k t c = c.loop-cell.invariant.1
+convert_block-loop-cell-preserved t c = (turn-next c.requires.converting.0 c.requires.converting.1 c.requires.body_at c.loop-cell.invariant.0 c.loop-cell-test.true c.reference-r.ensures c.convert_statement.ensures.statement_as (ap (stated _) c.in_ok-at.was) c.convert_statement.ensures.visits _ c.next_cell-cell.ensures, omega (arith, c.loop-cell.invariant.1, c.k-1.given))
 
 pub convert_block-returns : goal.convert_block-returns
 convert_block-returns t c = record { block_as = block_done c.requires.converting.0 c.requires.converting.1 c.requires.body_at c.loop-cell.invariant.0 c.loop-cell-test.false; visits = block_visited c.requires.converting.0 c.requires.converting.1 c.requires.body_at c.loop-cell.invariant.0 c.loop-cell-test.false }
@@ -66,46 +63,19 @@ pub convert_for_loop-overflow_cast-r : goal.convert_for_loop-overflow_cast-r
 convert_for_loop-overflow_cast-r t c = omega (arith, c.requires.kind.below, c.requires.converting.0.ready.keyed.good.few)
 
 pub convert_for_loop-convert_block-requires : goal.convert_for_loop-convert_block-requires
-convert_for_loop-convert_block-requires t c = let h = for_list c.requires.converting.0 c.requires.converting.1 c.requires.kind c.reference-body.ensures in (omega (arith, h.0, c.decreases), ((for_converting c.requires.converting.0 c.requires.converting.1 c.requires.kind c.for_head.ensures.for_head_as (ap (stated _) c.in-Done.is) c.with_loop-inner.ensures c.reference-body.ensures, for_afforded c.requires.converting.0 c.requires.converting.1 c.requires.kind c.for_head.ensures.for_head_as (ap (stated _) c.in-Done.is) c.with_loop-inner.ensures c.reference-body.ensures), (h.1, (for_head-visited c.requires.converting.0 c.requires.kind c.requires.fresh c.for_head.ensures.for_head_as (ap (stated _) c.in-Done.is) c.for_head.ensures.types).turns)))
+convert_for_loop-convert_block-requires t c = let h = for_list c.requires.converting.0 c.requires.converting.1 c.requires.kind c.reference-body.ensures in (omega (arith, h.0, c.decreases), ((for_converting c.requires.converting.0 c.requires.converting.1 c.requires.kind c.for_head.ensures.for_head_as (ap (stated _) c.in_ok-scope.was) c.with_loop.ensures c.reference-body.ensures, for_afforded c.requires.converting.0 c.requires.converting.1 c.requires.kind c.for_head.ensures.for_head_as (ap (stated _) c.in_ok-scope.was) c.with_loop.ensures c.reference-body.ensures), (h.1, (for_head-visited c.requires.converting.0 c.requires.kind c.requires.fresh c.for_head.ensures.for_head_as (ap (stated _) c.in_ok-scope.was) c.for_head.ensures.types).turns)))
 
 pub convert_for_loop-loop_end-requires : goal.convert_for_loop-loop_end-requires
-convert_for_loop-loop_end-requires t c = for_room c.requires.converting.0 c.requires.converting.1 c.requires.kind c.for_head.ensures.for_head_as (ap (stated _) c.in-Done.is) c.with_loop-inner.ensures c.reference-body.ensures c.convert_block.ensures.block_as (ap (finished_with _) c.in-Done-convert_block.is)
+convert_for_loop-loop_end-requires t c = for_room c.requires.converting.0 c.requires.converting.1 c.requires.kind c.for_head.ensures.for_head_as (ap (stated _) c.in_ok-scope.was) c.with_loop.ensures c.reference-body.ensures c.convert_block.ensures.block_as (ap (finished_with _) c.in_ok-convert_block.was)
 
-pub convert_for_loop-shape_of-arena-in-Refused : goal.convert_for_loop-shape_of-arena-in-Refused
-convert_for_loop-shape_of-arena-in-Refused t c = omega (arith, c.arena-1.given)
+pub convert_for_loop-returns-in_err-scope : goal.convert_for_loop-returns-in_err-scope
+convert_for_loop-returns-in_err-scope t c = let p = err_from_is_err_and c.from_residual.result c.from_residual.ensures.1 in rw (p.1, p.2) (record { finishes_as = for_stop c.requires.converting.0 c.requires.converting.1 c.requires.kind c.for_head.ensures.for_head_as (ap (stated _) c.in_err-scope.was); visits = λ k q. refused-finished k q })
 
-pub convert_for_loop-shape_of-scratch-in-Refused : goal.convert_for_loop-shape_of-scratch-in-Refused
-convert_for_loop-shape_of-scratch-in-Refused t c = omega (arith, c.scratch-1.given)
+pub convert_for_loop-returns-in_err-convert_block : goal.convert_for_loop-returns-in_err-convert_block
+convert_for_loop-returns-in_err-convert_block t c = let p = err_from_is_err_and c.from_residual-in_err-convert_block.result c.from_residual-in_err-convert_block.ensures.1 in rw (p.1, p.2) (record { finishes_as = for_body-stop c.requires.converting.0 c.requires.converting.1 c.requires.kind c.for_head.ensures.for_head_as (ap (stated _) c.in_ok-scope.was) c.with_loop.ensures c.reference-body.ensures c.convert_block.ensures.block_as (ap (finished_with _) c.in_err-convert_block.was); visits = λ k q. refused-finished k q })
 
-pub convert_for_loop-shape_of-k-in-Refused : goal.convert_for_loop-shape_of-k-in-Refused
-convert_for_loop-shape_of-k-in-Refused t c = omega (arith, c.k-1.given)
-
-pub convert_for_loop-returns-in-Refused : goal.convert_for_loop-returns-in-Refused
-convert_for_loop-returns-in-Refused t c = record { finishes_as = for_stop c.requires.converting.0 c.requires.converting.1 c.requires.kind c.for_head.ensures.for_head_as (ap (stated _) c.in-Refused.is); visits = λ k q. refused-finished k q }
-
-pub convert_for_loop-shape_of-arena-in-Refused-convert_block : goal.convert_for_loop-shape_of-arena-in-Refused-convert_block
-convert_for_loop-shape_of-arena-in-Refused-convert_block t c = omega (arith, c.arena-1.given, c.arena-in-Done-1.given)
-
-pub convert_for_loop-shape_of-scratch-in-Refused-convert_block : goal.convert_for_loop-shape_of-scratch-in-Refused-convert_block
-convert_for_loop-shape_of-scratch-in-Refused-convert_block t c = omega (arith, c.scratch-1.given, c.scratch-in-Done-1.given)
-
-pub convert_for_loop-shape_of-k-in-Refused-convert_block : goal.convert_for_loop-shape_of-k-in-Refused-convert_block
-convert_for_loop-shape_of-k-in-Refused-convert_block t c = omega (arith, c.k-1.given, c.k-in-Done-1.given)
-
-pub convert_for_loop-returns-in-Refused-convert_block : goal.convert_for_loop-returns-in-Refused-convert_block
-convert_for_loop-returns-in-Refused-convert_block t c = record { finishes_as = for_body-stop c.requires.converting.0 c.requires.converting.1 c.requires.kind c.for_head.ensures.for_head_as (ap (stated _) c.in-Done.is) c.with_loop-inner.ensures c.reference-body.ensures c.convert_block.ensures.block_as (ap (finished_with _) c.in-Refused-convert_block.is); visits = λ k q. refused-finished k q }
-
-pub convert_for_loop-shape_of-arena-in-Done-convert_block : goal.convert_for_loop-shape_of-arena-in-Done-convert_block
-convert_for_loop-shape_of-arena-in-Done-convert_block t c = omega (arith, c.arena-1.given, c.arena-in-Done-1.given, c.arena-in-Done-convert_block-1.given)
-
-pub convert_for_loop-shape_of-scratch-in-Done-convert_block : goal.convert_for_loop-shape_of-scratch-in-Done-convert_block
-convert_for_loop-shape_of-scratch-in-Done-convert_block t c = omega (arith, c.scratch-1.given, c.scratch-in-Done-1.given)
-
-pub convert_for_loop-shape_of-k-in-Done-convert_block : goal.convert_for_loop-shape_of-k-in-Done-convert_block
-convert_for_loop-shape_of-k-in-Done-convert_block t c = omega (arith, c.k-1.given, c.k-in-Done-1.given, c.k-in-Done-convert_block-1.given)
-
-pub convert_for_loop-returns-in-Done-convert_block : goal.convert_for_loop-returns-in-Done-convert_block
-convert_for_loop-returns-in-Done-convert_block t c = record { finishes_as = for_next c.requires.converting.0 c.requires.converting.1 c.requires.kind c.for_head.ensures.for_head_as (ap (stated _) c.in-Done.is) c.with_loop-inner.ensures c.reference-body.ensures c.convert_block.ensures.block_as (ap (finished_with _) c.in-Done-convert_block.is) c.loop_end.ensures; visits = for_visited c.requires.converting.0 c.requires.kind c.requires.fresh c.for_head.ensures.for_head_as (ap (stated _) c.in-Done.is) c.for_head.ensures.types refl c.reference-body.ensures c.convert_block.ensures.visits (ap (finished_with _) c.in-Done-convert_block.is) c.loop_end.ensures }
+pub convert_for_loop-returns : goal.convert_for_loop-returns
+convert_for_loop-returns t c = record { finishes_as = for_next c.requires.converting.0 c.requires.converting.1 c.requires.kind c.for_head.ensures.for_head_as (ap (stated _) c.in_ok-scope.was) c.with_loop.ensures c.reference-body.ensures c.convert_block.ensures.block_as (ap (finished_with _) c.in_ok-convert_block.was) c.loop_end.ensures; visits = for_visited c.requires.converting.0 c.requires.kind c.requires.fresh c.for_head.ensures.for_head_as (ap (stated _) c.in_ok-scope.was) c.for_head.ensures.types refl c.reference-body.ensures c.convert_block.ensures.visits (ap (finished_with _) c.in_ok-convert_block.was) c.loop_end.ensures }
 
 pub convert_if-reference-then-requires : goal.convert_if-reference-then-requires
 convert_if-reference-then-requires t c = record { record_bytes_in_bounds = omega (arith, c.requires.kind.below, c.requires.converting.0.ready.keyed.good.whole); k_bound = omega arith }
@@ -113,86 +83,41 @@ convert_if-reference-then-requires t c = record { record_bytes_in_bounds = omega
 pub convert_if-reference-otherwise-requires : goal.convert_if-reference-otherwise-requires
 convert_if-reference-otherwise-requires t c = record { record_bytes_in_bounds = omega (arith, c.requires.kind.below, c.requires.converting.0.ready.keyed.good.whole); k_bound = omega arith }
 
-pub convert_if-if_head-head-requires : goal.convert_if-if_head-head-requires
-convert_if-if_head-head-requires t c = record { converting = (c.requires.converting.0, c.requires.converting.1); kind = c.requires.kind; in_turn = begun-in_turn c.requires.converting.0 c.requires.kind c.requires.fresh c.requires.converting.1 }
-
-pub convert_if-shape_of-arena-in_default : goal.convert_if-shape_of-arena-in_default
-convert_if-shape_of-arena-in_default t c = omega (arith, c.arena-1.given)
-
-pub convert_if-shape_of-scratch-in_default : goal.convert_if-shape_of-scratch-in_default
-convert_if-shape_of-scratch-in_default t c = omega (arith, c.scratch-1.given)
-
-pub convert_if-shape_of-k-in_default : goal.convert_if-shape_of-k-in_default
-convert_if-shape_of-k-in_default t c = omega (arith, c.k-1.given)
-
-pub convert_if-returns-in_default : goal.convert_if-returns-in_default
-convert_if-returns-in_default t c = record { finishes_as = if-stop c.requires.converting.0 c.requires.converting.1 c.requires.kind c.if_head-head.ensures.head_as _ c.if_head-head.result refl c.in_default.in_default-own.keys2; visits = λ k q. refused-visited _ c.if_head-head.result c.in_default.in_default-own.keys2 k q }
+pub convert_if-if_head-requires : goal.convert_if-if_head-requires
+convert_if-if_head-requires t c = record { converting = (c.requires.converting.0, c.requires.converting.1); kind = c.requires.kind; in_turn = begun-in_turn c.requires.converting.0 c.requires.kind c.requires.fresh c.requires.converting.1 }
 
 pub convert_if-convert_block-requires : goal.convert_if-convert_block-requires
-convert_if-convert_block-requires t c = let h = then_list c.requires.converting.0 c.requires.converting.1 c.requires.kind c.reference-then.ensures in (omega (arith, h.0, c.decreases), ((finished_converting c.if_head-head.ensures.head_as (ap (finished_with _) c.in-Done.is) c.requires.converting.0, then_afforded c.requires.converting.0 c.requires.converting.1 c.requires.kind c.if_head-head.ensures.head_as (ap (finished_with _) c.in-Done.is) c.reference-then.ensures), (h.1, (head_visited c.requires.converting.0 c.requires.kind c.requires.fresh c.if_head-head.ensures.head_as (ap (finished_with _) c.in-Done.is) c.if_head-head.ensures.types).turns)))
+convert_if-convert_block-requires t c = let h = then_list c.requires.converting.0 c.requires.converting.1 c.requires.kind c.reference-then.ensures in (omega (arith, h.0, c.decreases), ((finished_converting c.if_head.ensures.head_as (ap (finished_with _) c.in_ok-if_head.was) c.requires.converting.0, then_afforded c.requires.converting.0 c.requires.converting.1 c.requires.kind c.if_head.ensures.head_as (ap (finished_with _) c.in_ok-if_head.was) c.reference-then.ensures), (h.1, (head_visited c.requires.converting.0 c.requires.kind c.requires.fresh c.if_head.ensures.head_as (ap (finished_with _) c.in_ok-if_head.was) c.if_head.ensures.types).turns)))
 
 pub convert_if-has_otherwise-requires : goal.convert_if-has_otherwise-requires
 convert_if-has_otherwise-requires t c = record { record_bytes_in_bounds = omega (arith, c.requires.kind.below, c.requires.converting.0.ready.keyed.good.whole); r_bound = omega (arith, if_detail _ _ c.requires.converting.0.ready.keyed.good _ c.requires.kind.below c.requires.kind.kind) }
 
-pub convert_if-if_end-requires : goal.convert_if-if_end-requires
-convert_if-if_end-requires t c = if-room c.requires.converting.0 c.requires.converting.1 c.requires.kind c.if_head-head.ensures.head_as (ap (finished_with _) c.in-Done.is) c.reference-then.ensures c.convert_block.ensures.block_as (ap (finished_with _) c.in-Done-convert_block.is) c.has_otherwise.ensures c.if-not-has_otherwise.true
+pub convert_if-returns-in_err-if_head : goal.convert_if-returns-in_err-if_head
+convert_if-returns-in_err-if_head t c = let p = err_from_is_err_and c.from_residual.result c.from_residual.ensures.1 in rw (p.1, p.2) (record { finishes_as = if-stop c.requires.converting.0 c.requires.converting.1 c.requires.kind c.if_head.ensures.head_as (ap (finished_with _) c.in_err-if_head.was); visits = λ k q. refused-finished k q })
 
-pub convert_if-shape_of-arena-then-not-has_otherwise : goal.convert_if-shape_of-arena-then-not-has_otherwise
-convert_if-shape_of-arena-then-not-has_otherwise t c = omega (arith, c.arena-1.given, c.arena-2-1.given, c.arena-then-not-has_otherwise-1.given)
-
-pub convert_if-shape_of-scratch-then-not-has_otherwise : goal.convert_if-shape_of-scratch-then-not-has_otherwise
-convert_if-shape_of-scratch-then-not-has_otherwise t c = omega (arith, c.scratch-1.given, c.scratch-2-1.given)
-
-pub convert_if-shape_of-k-then-not-has_otherwise : goal.convert_if-shape_of-k-then-not-has_otherwise
-convert_if-shape_of-k-then-not-has_otherwise t c = omega (arith, c.k-1.given, c.k-2-1.given, c.k-then-not-has_otherwise-1.given)
-
-pub convert_if-returns-then-not-has_otherwise : goal.convert_if-returns-then-not-has_otherwise
-convert_if-returns-then-not-has_otherwise t c = record { finishes_as = if-next c.requires.converting.0 c.requires.converting.1 c.requires.kind c.if_head-head.ensures.head_as (ap (finished_with _) c.in-Done.is) c.reference-then.ensures c.convert_block.ensures.block_as (ap (finished_with _) c.in-Done-convert_block.is) c.has_otherwise.ensures c.if-not-has_otherwise.true c.if_end.ensures; visits = if-visited c.requires.converting.0 c.requires.kind c.requires.fresh c.if_head-head.ensures.head_as (ap (finished_with _) c.in-Done.is) c.if_head-head.ensures.types c.reference-then.ensures c.convert_block.ensures.visits (ap (finished_with _) c.in-Done-convert_block.is) c.if_end.ensures c.has_otherwise.ensures refl c.if-not-has_otherwise.true }
+pub convert_if-returns-in_err-convert_block : goal.convert_if-returns-in_err-convert_block
+convert_if-returns-in_err-convert_block t c = let p = err_from_is_err_and c.from_residual-in_err-convert_block.result c.from_residual-in_err-convert_block.ensures.1 in rw (p.1, p.2) (record { finishes_as = then_stop c.requires.converting.0 c.requires.converting.1 c.requires.kind c.if_head.ensures.head_as (ap (finished_with _) c.in_ok-if_head.was) c.reference-then.ensures c.convert_block.ensures.block_as (ap (finished_with _) c.in_err-convert_block.was); visits = λ k q. refused-finished k q })
 
 pub convert_if-if_middle-requires : goal.convert_if-if_middle-requires
-convert_if-if_middle-requires t c = middle_room c.requires.converting.0 c.requires.converting.1 c.requires.kind c.if_head-head.ensures.head_as (ap (finished_with _) c.in-Done.is) c.reference-then.ensures c.convert_block.ensures.block_as (ap (finished_with _) c.in-Done-convert_block.is) c.has_otherwise.ensures c.if-not-has_otherwise.false
+convert_if-if_middle-requires t c = middle_room c.requires.converting.0 c.requires.converting.1 c.requires.kind c.if_head.ensures.head_as (ap (finished_with _) c.in_ok-if_head.was) c.reference-then.ensures c.convert_block.ensures.block_as (ap (finished_with _) c.in_ok-convert_block.was) c.has_otherwise.ensures c.if-has_otherwise.true
 
-pub convert_if-convert_block-requires-in-Done-convert_block : goal.convert_if-convert_block-requires-in-Done-convert_block
-convert_if-convert_block-requires-in-Done-convert_block t c = let h = other-list c.requires.converting.0 c.requires.converting.1 c.requires.kind c.reference-otherwise.ensures in (omega (arith, h.0, c.decreases), ((other_converting c.requires.converting.0 c.requires.converting.1 c.requires.kind c.if_head-head.ensures.head_as (ap (finished_with _) c.in-Done.is) c.reference-then.ensures c.convert_block.ensures.block_as (ap (finished_with _) c.in-Done-convert_block.is) c.has_otherwise.ensures c.if-not-has_otherwise.false c.if_middle.ensures c.reference-otherwise.ensures, other_afforded c.requires.converting.0 c.requires.converting.1 c.requires.kind c.if_head-head.ensures.head_as (ap (finished_with _) c.in-Done.is) c.reference-then.ensures c.convert_block.ensures.block_as (ap (finished_with _) c.in-Done-convert_block.is) c.has_otherwise.ensures c.if-not-has_otherwise.false c.if_middle.ensures c.reference-otherwise.ensures), (h.1, middle_turns c.requires.converting.0 c.requires.kind c.requires.fresh c.if_head-head.ensures.head_as (ap (finished_with _) c.in-Done.is) c.if_head-head.ensures.types c.reference-then.ensures c.convert_block.ensures.visits (ap (finished_with _) c.in-Done-convert_block.is) c.if_middle.ensures c.has_otherwise.ensures)))
+pub convert_if-convert_block-requires-then-has_otherwise : goal.convert_if-convert_block-requires-then-has_otherwise
+convert_if-convert_block-requires-then-has_otherwise t c = let h = other-list c.requires.converting.0 c.requires.converting.1 c.requires.kind c.reference-otherwise.ensures in (omega (arith, h.0, c.decreases), ((other_converting c.requires.converting.0 c.requires.converting.1 c.requires.kind c.if_head.ensures.head_as (ap (finished_with _) c.in_ok-if_head.was) c.reference-then.ensures c.convert_block.ensures.block_as (ap (finished_with _) c.in_ok-convert_block.was) c.has_otherwise.ensures c.if-has_otherwise.true c.if_middle.ensures c.reference-otherwise.ensures, other_afforded c.requires.converting.0 c.requires.converting.1 c.requires.kind c.if_head.ensures.head_as (ap (finished_with _) c.in_ok-if_head.was) c.reference-then.ensures c.convert_block.ensures.block_as (ap (finished_with _) c.in_ok-convert_block.was) c.has_otherwise.ensures c.if-has_otherwise.true c.if_middle.ensures c.reference-otherwise.ensures), (h.1, middle_turns c.requires.converting.0 c.requires.kind c.requires.fresh c.if_head.ensures.head_as (ap (finished_with _) c.in_ok-if_head.was) c.if_head.ensures.types c.reference-then.ensures c.convert_block.ensures.visits (ap (finished_with _) c.in_ok-convert_block.was) c.if_middle.ensures c.has_otherwise.ensures)))
 
-pub convert_if-if_end-requires-in-Done-convert_block-2 : goal.convert_if-if_end-requires-in-Done-convert_block-2
-convert_if-if_end-requires-in-Done-convert_block-2 t c = other-room c.requires.converting.0 c.requires.converting.1 c.requires.kind c.if_head-head.ensures.head_as (ap (finished_with _) c.in-Done.is) c.reference-then.ensures c.convert_block.ensures.block_as (ap (finished_with _) c.in-Done-convert_block.is) c.has_otherwise.ensures c.if-not-has_otherwise.false c.if_middle.ensures c.reference-otherwise.ensures c.convert_block-in-Done-convert_block.ensures.block_as (ap (finished_with _) c.in-Done-convert_block-2.is)
+pub convert_if-returns-in_err-convert_block-2 : goal.convert_if-returns-in_err-convert_block-2
+convert_if-returns-in_err-convert_block-2 t c = let p = err_from_is_err_and c.from_residual-in_err-convert_block-2.result c.from_residual-in_err-convert_block-2.ensures.1 in rw (p.1, p.2) (record { finishes_as = other-stop c.requires.converting.0 c.requires.converting.1 c.requires.kind c.if_head.ensures.head_as (ap (finished_with _) c.in_ok-if_head.was) c.reference-then.ensures c.convert_block.ensures.block_as (ap (finished_with _) c.in_ok-convert_block.was) c.has_otherwise.ensures c.if-has_otherwise.true c.if_middle.ensures c.reference-otherwise.ensures c.convert_block-then-has_otherwise.ensures.block_as (ap (finished_with _) c.in_err-convert_block-2.was); visits = λ k q. refused-finished k q })
 
-pub convert_if-shape_of-arena-in-Refused : goal.convert_if-shape_of-arena-in-Refused
-convert_if-shape_of-arena-in-Refused t c = omega (arith, c.arena-1.given, c.arena-2-1.given)
+pub convert_if-if_end-requires : goal.convert_if-if_end-requires
+convert_if-if_end-requires t c = elim c.if-has_otherwise.branch [
+  | convert_if-then-has_otherwise+in_ok-convert_block-2 w ↦ rw (w.arena-is, w.k-is) (other-room c.requires.converting.0 c.requires.converting.1 c.requires.kind c.if_head.ensures.head_as (ap (finished_with _) c.in_ok-if_head.was) c.reference-then.ensures c.convert_block.ensures.block_as (ap (finished_with _) c.in_ok-convert_block.was) c.has_otherwise.ensures w.if-has_otherwise.true w.if_middle.ensures c.reference-otherwise.ensures w.convert_block-then-has_otherwise.ensures.block_as (ap (finished_with _) w.in_ok-convert_block-2.was))
+  | convert_if-else-has_otherwise w ↦ rw (w.arena-is, w.k-is) (if-room c.requires.converting.0 c.requires.converting.1 c.requires.kind c.if_head.ensures.head_as (ap (finished_with _) c.in_ok-if_head.was) c.reference-then.ensures c.convert_block.ensures.block_as (ap (finished_with _) c.in_ok-convert_block.was) c.has_otherwise.ensures w.if-has_otherwise.false)
+]
 
-pub convert_if-shape_of-scratch-in-Refused : goal.convert_if-shape_of-scratch-in-Refused
-convert_if-shape_of-scratch-in-Refused t c = omega (arith, c.scratch-1.given, c.scratch-2-1.given)
-
-pub convert_if-shape_of-k-in-Refused : goal.convert_if-shape_of-k-in-Refused
-convert_if-shape_of-k-in-Refused t c = omega (arith, c.k-1.given, c.k-2-1.given)
-
-pub convert_if-returns-in-Refused : goal.convert_if-returns-in-Refused
-convert_if-returns-in-Refused t c = record { finishes_as = then_stop c.requires.converting.0 c.requires.converting.1 c.requires.kind c.if_head-head.ensures.head_as (ap (finished_with _) c.in-Done.is) c.reference-then.ensures c.convert_block.ensures.block_as (ap (finished_with _) c.in-Refused.is); visits = λ k q. refused-finished k q }
-
-pub convert_if-shape_of-arena-in-Refused-convert_block : goal.convert_if-shape_of-arena-in-Refused-convert_block
-convert_if-shape_of-arena-in-Refused-convert_block t c = omega (arith, c.arena-1.given, c.arena-2-1.given, c.arena-in-Done-convert_block-1.given, c.arena-in-Done-convert_block-2-1.given)
-
-pub convert_if-shape_of-scratch-in-Refused-convert_block : goal.convert_if-shape_of-scratch-in-Refused-convert_block
-convert_if-shape_of-scratch-in-Refused-convert_block t c = omega (arith, c.scratch-1.given, c.scratch-2-1.given, c.scratch-in-Done-convert_block-1.given)
-
-pub convert_if-shape_of-k-in-Refused-convert_block : goal.convert_if-shape_of-k-in-Refused-convert_block
-convert_if-shape_of-k-in-Refused-convert_block t c = omega (arith, c.k-1.given, c.k-2-1.given, c.k-in-Done-convert_block-1.given, c.k-in-Done-convert_block-2-1.given)
-
-pub convert_if-returns-in-Refused-convert_block : goal.convert_if-returns-in-Refused-convert_block
-convert_if-returns-in-Refused-convert_block t c = record { finishes_as = other-stop c.requires.converting.0 c.requires.converting.1 c.requires.kind c.if_head-head.ensures.head_as (ap (finished_with _) c.in-Done.is) c.reference-then.ensures c.convert_block.ensures.block_as (ap (finished_with _) c.in-Done-convert_block.is) c.has_otherwise.ensures c.if-not-has_otherwise.false c.if_middle.ensures c.reference-otherwise.ensures c.convert_block-in-Done-convert_block.ensures.block_as (ap (finished_with _) c.in-Refused-convert_block.is); visits = λ k q. refused-finished k q }
-
-pub convert_if-shape_of-arena-in-Done-convert_block-2 : goal.convert_if-shape_of-arena-in-Done-convert_block-2
-convert_if-shape_of-arena-in-Done-convert_block-2 t c = omega (arith, c.arena-1.given, c.arena-2-1.given, c.arena-in-Done-convert_block-1.given, c.arena-in-Done-convert_block-2-1.given, c.arena-in-Done-convert_block-2-2-1.given)
-
-pub convert_if-shape_of-scratch-in-Done-convert_block-2 : goal.convert_if-shape_of-scratch-in-Done-convert_block-2
-convert_if-shape_of-scratch-in-Done-convert_block-2 t c = omega (arith, c.scratch-1.given, c.scratch-2-1.given, c.scratch-in-Done-convert_block-1.given)
-
-pub convert_if-shape_of-k-in-Done-convert_block-2 : goal.convert_if-shape_of-k-in-Done-convert_block-2
-convert_if-shape_of-k-in-Done-convert_block-2 t c = omega (arith, c.k-1.given, c.k-2-1.given, c.k-in-Done-convert_block-1.given, c.k-in-Done-convert_block-2-1.given, c.k-in-Done-convert_block-2-2-1.given)
-
-pub convert_if-returns-in-Done-convert_block-2 : goal.convert_if-returns-in-Done-convert_block-2
-convert_if-returns-in-Done-convert_block-2 t c = record { finishes_as = if_else_next c.requires.converting.0 c.requires.converting.1 c.requires.kind c.if_head-head.ensures.head_as (ap (finished_with _) c.in-Done.is) c.reference-then.ensures c.convert_block.ensures.block_as (ap (finished_with _) c.in-Done-convert_block.is) c.has_otherwise.ensures c.if-not-has_otherwise.false c.if_middle.ensures c.reference-otherwise.ensures c.convert_block-in-Done-convert_block.ensures.block_as (ap (finished_with _) c.in-Done-convert_block-2.is) c.if_end-in-Done-convert_block-2.ensures; visits = else_visited c.requires.converting.0 c.requires.kind c.requires.fresh c.if_head-head.ensures.head_as (ap (finished_with _) c.in-Done.is) c.if_head-head.ensures.types c.reference-then.ensures c.convert_block.ensures.visits (ap (finished_with _) c.in-Done-convert_block.is) c.if_middle.ensures c.has_otherwise.ensures refl c.if-not-has_otherwise.false c.reference-otherwise.ensures c.convert_block-in-Done-convert_block.ensures.visits (ap (finished_with _) c.in-Done-convert_block-2.is) c.if_end-in-Done-convert_block-2.ensures }
+pub convert_if-returns : goal.convert_if-returns
+convert_if-returns t c = elim c.if-has_otherwise.branch [
+  | convert_if-then-has_otherwise+in_ok-convert_block-2 w ↦ let j = rw (w.arena-is, w.k-is) at c.if_end.ensures in rw w.scratch-is (record { finishes_as = if_else_next c.requires.converting.0 c.requires.converting.1 c.requires.kind c.if_head.ensures.head_as (ap (finished_with _) c.in_ok-if_head.was) c.reference-then.ensures c.convert_block.ensures.block_as (ap (finished_with _) c.in_ok-convert_block.was) c.has_otherwise.ensures w.if-has_otherwise.true w.if_middle.ensures c.reference-otherwise.ensures w.convert_block-then-has_otherwise.ensures.block_as (ap (finished_with _) w.in_ok-convert_block-2.was) j; visits = else_visited c.requires.converting.0 c.requires.kind c.requires.fresh c.if_head.ensures.head_as (ap (finished_with _) c.in_ok-if_head.was) c.if_head.ensures.types c.reference-then.ensures c.convert_block.ensures.visits (ap (finished_with _) c.in_ok-convert_block.was) w.if_middle.ensures c.has_otherwise.ensures refl w.if-has_otherwise.true c.reference-otherwise.ensures w.convert_block-then-has_otherwise.ensures.visits (ap (finished_with _) w.in_ok-convert_block-2.was) j })
+  | convert_if-else-has_otherwise w ↦ let j = rw (w.arena-is, w.k-is) at c.if_end.ensures in rw w.scratch-is (record { finishes_as = if-next c.requires.converting.0 c.requires.converting.1 c.requires.kind c.if_head.ensures.head_as (ap (finished_with _) c.in_ok-if_head.was) c.reference-then.ensures c.convert_block.ensures.block_as (ap (finished_with _) c.in_ok-convert_block.was) c.has_otherwise.ensures w.if-has_otherwise.false j; visits = if-visited c.requires.converting.0 c.requires.kind c.requires.fresh c.if_head.ensures.head_as (ap (finished_with _) c.in_ok-if_head.was) c.if_head.ensures.types c.reference-then.ensures c.convert_block.ensures.visits (ap (finished_with _) c.in_ok-convert_block.was) j c.has_otherwise.ensures refl w.if-has_otherwise.false })
+]
 
 pub convert_statement-kind-node-requires : goal.convert_statement-kind-node-requires
 convert_statement-kind-node-requires t c = omega (arith, c.requires.statement.below, c.requires.converting.0.ready.keyed.good.whole)
@@ -214,15 +139,6 @@ pub convert_statement-convert_plain-requires : goal.convert_statement-convert_pl
 unfolding counted
 convert_statement-convert_plain-requires t c = record { converting = (comment_converting c.requires.converting.0 c.requires.converting.1 c.requires.statement (omega arith) c.emit_comment.ensures, comment_afforded c.requires.converting.0 c.requires.converting.1 c.requires.statement (omega arith) c.emit_comment.ensures); statement = (c.requires.statement, omega (arith, c.kind-node.ensures, c.if-node-le-KIND_CALL_STATEMENT.true)); in_turn = comment_in_turn c.requires.converting.0 c.requires.converting.1 c.requires.statement c.requires.turns c.emit_comment.ensures }
 
-pub convert_statement-shape_of-arena-then-node-le-KIND_CALL_STATEMENT : goal.convert_statement-shape_of-arena-then-node-le-KIND_CALL_STATEMENT
-convert_statement-shape_of-arena-then-node-le-KIND_CALL_STATEMENT t c = omega (arith, c.arena-1.given, c.arena-then-node-le-KIND_CALL_STATEMENT-1.given)
-
-pub convert_statement-shape_of-scratch-then-node-le-KIND_CALL_STATEMENT : goal.convert_statement-shape_of-scratch-then-node-le-KIND_CALL_STATEMENT
-convert_statement-shape_of-scratch-then-node-le-KIND_CALL_STATEMENT t c = omega (arith, c.scratch-1.given)
-
-pub convert_statement-shape_of-k-then-node-le-KIND_CALL_STATEMENT : goal.convert_statement-shape_of-k-then-node-le-KIND_CALL_STATEMENT
-convert_statement-shape_of-k-then-node-le-KIND_CALL_STATEMENT t c = omega (arith, c.k-1.given, c.k-then-node-le-KIND_CALL_STATEMENT-1.given)
-
 pub convert_statement-returns-then-node-le-KIND_CALL_STATEMENT : goal.convert_statement-returns-then-node-le-KIND_CALL_STATEMENT
 unfolding counted
 convert_statement-returns-then-node-le-KIND_CALL_STATEMENT t c = record { statement_as = commented_plain c.requires.converting.0 c.requires.converting.1 c.requires.statement (omega arith) c.emit_comment.ensures c.kind-node.ensures c.if-node-le-KIND_CALL_STATEMENT.true c.convert_plain.ensures.states_as; visits = plain_visited c.requires.converting.0 c.requires.converting.1 c.requires.statement c.requires.turns c.emit_comment.ensures c.convert_plain.ensures.states_as c.kind-node.ensures c.if-node-le-KIND_CALL_STATEMENT.true c.convert_plain.ensures.types }
@@ -230,12 +146,6 @@ convert_statement-returns-then-node-le-KIND_CALL_STATEMENT t c = record { statem
 pub convert_statement-convert_jump-requires : goal.convert_statement-convert_jump-requires
 unfolding counted
 convert_statement-convert_jump-requires t c = record { converting = (comment_converting c.requires.converting.0 c.requires.converting.1 c.requires.statement (omega arith) c.emit_comment.ensures, comment_afforded c.requires.converting.0 c.requires.converting.1 c.requires.statement (omega arith) c.emit_comment.ensures); statement = (c.requires.statement, omega (arith, c.kind-node.ensures, c.if-node-ge-KIND_BREAK.true)) }
-
-pub convert_statement-shape_of-arena-then-node-ge-KIND_BREAK : goal.convert_statement-shape_of-arena-then-node-ge-KIND_BREAK
-convert_statement-shape_of-arena-then-node-ge-KIND_BREAK t c = omega (arith, c.arena-1.given, c.arena-then-node-ge-KIND_BREAK-1.given)
-
-pub convert_statement-shape_of-k-then-node-ge-KIND_BREAK : goal.convert_statement-shape_of-k-then-node-ge-KIND_BREAK
-convert_statement-shape_of-k-then-node-ge-KIND_BREAK t c = omega (arith, c.k-1.given, c.k-then-node-ge-KIND_BREAK-1.given)
 
 pub convert_statement-returns-then-node-ge-KIND_BREAK : goal.convert_statement-returns-then-node-ge-KIND_BREAK
 unfolding counted
@@ -245,52 +155,37 @@ pub convert_statement-convert_if-requires : goal.convert_statement-convert_if-re
 unfolding counted
 convert_statement-convert_if-requires t c = (omega (arith, c.decreases), ((comment_converting c.requires.converting.0 c.requires.converting.1 c.requires.statement (omega arith) c.emit_comment.ensures, comment_afforded c.requires.converting.0 c.requires.converting.1 c.requires.statement (omega arith) c.emit_comment.ensures), (record { below = c.requires.statement.below; kind = sym c.kind-node.ensures ∙ c.if-node-eq-KIND_IF.true }, comment_fresh c.requires.converting.0 c.requires.converting.1 c.requires.statement c.requires.turns c.emit_comment.ensures)))
 
-pub convert_statement-shape_of-arena-then-node-eq-KIND_IF : goal.convert_statement-shape_of-arena-then-node-eq-KIND_IF
-convert_statement-shape_of-arena-then-node-eq-KIND_IF t c = omega (arith, c.arena-1.given, c.arena-then-node-eq-KIND_IF-1.given)
-
-pub convert_statement-shape_of-scratch-then-node-eq-KIND_IF : goal.convert_statement-shape_of-scratch-then-node-eq-KIND_IF
-convert_statement-shape_of-scratch-then-node-eq-KIND_IF t c = omega (arith, c.scratch-then-node-eq-KIND_IF-1.given)
-
-pub convert_statement-shape_of-k-then-node-eq-KIND_IF : goal.convert_statement-shape_of-k-then-node-eq-KIND_IF
-convert_statement-shape_of-k-then-node-eq-KIND_IF t c = omega (arith, c.k-1.given, c.k-then-node-eq-KIND_IF-1.given)
-
 pub convert_statement-returns-then-node-eq-KIND_IF : goal.convert_statement-returns-then-node-eq-KIND_IF
 unfolding counted
-convert_statement-returns-then-node-eq-KIND_IF t c = record { statement_as = commented_if c.requires.converting.0 c.requires.converting.1 c.requires.statement (omega arith) c.emit_comment.ensures c.kind-node.ensures (c.stated.ensures c.convert_if.new.k) c.if-node-eq-KIND_IF.true c.convert_if.ensures.finishes_as; visits = stated-visited _ _ _ _ (c.stated.ensures c.convert_if.new.k) c.convert_if.ensures.visits }
+convert_statement-returns-then-node-eq-KIND_IF t c = record { statement_as = commented_if c.requires.converting.0 c.requires.converting.1 c.requires.statement (omega arith) c.emit_comment.ensures c.kind-node.ensures (done-stated c.convert_if.new.k c.args.c.scope c.in_ok-convert_if.was) c.if-node-eq-KIND_IF.true c.convert_if.ensures.finishes_as; visits = stated-visited _ _ _ _ (done-stated c.convert_if.new.k c.args.c.scope c.in_ok-convert_if.was) c.convert_if.ensures.visits }
+
+pub convert_statement-returns-in_err-convert_if : goal.convert_statement-returns-in_err-convert_if
+unfolding counted
+convert_statement-returns-in_err-convert_if t c = let p = err_from_is_err_and c.from_residual.result c.from_residual.ensures.1 in rw (p.1, p.2) (record { statement_as = commented_if c.requires.converting.0 c.requires.converting.1 c.requires.statement (omega arith) c.emit_comment.ensures c.kind-node.ensures (stop-stated c.convert_if.new.k c.args.c.scope c.in_err-convert_if.was) c.if-node-eq-KIND_IF.true c.convert_if.ensures.finishes_as; visits = stated-visited _ _ _ _ (stop-stated c.convert_if.new.k c.args.c.scope c.in_err-convert_if.was) c.convert_if.ensures.visits })
 
 pub convert_statement-convert_while_loop-requires : goal.convert_statement-convert_while_loop-requires
 unfolding counted
 convert_statement-convert_while_loop-requires t c = (omega (arith, c.decreases), ((comment_converting c.requires.converting.0 c.requires.converting.1 c.requires.statement (omega arith) c.emit_comment.ensures, comment_afforded c.requires.converting.0 c.requires.converting.1 c.requires.statement (omega arith) c.emit_comment.ensures), (record { below = c.requires.statement.below; kind = sym c.kind-node.ensures ∙ c.if-node-eq-KIND_WHILE.true }, comment_fresh c.requires.converting.0 c.requires.converting.1 c.requires.statement c.requires.turns c.emit_comment.ensures)))
 
-pub convert_statement-shape_of-arena-then-node-eq-KIND_WHILE : goal.convert_statement-shape_of-arena-then-node-eq-KIND_WHILE
-convert_statement-shape_of-arena-then-node-eq-KIND_WHILE t c = omega (arith, c.arena-1.given, c.arena-then-node-eq-KIND_WHILE-1.given)
-
-pub convert_statement-shape_of-scratch-then-node-eq-KIND_WHILE : goal.convert_statement-shape_of-scratch-then-node-eq-KIND_WHILE
-convert_statement-shape_of-scratch-then-node-eq-KIND_WHILE t c = omega (arith, c.scratch-then-node-eq-KIND_WHILE-1.given)
-
-pub convert_statement-shape_of-k-then-node-eq-KIND_WHILE : goal.convert_statement-shape_of-k-then-node-eq-KIND_WHILE
-convert_statement-shape_of-k-then-node-eq-KIND_WHILE t c = omega (arith, c.k-1.given, c.k-then-node-eq-KIND_WHILE-1.given)
-
 pub convert_statement-returns-then-node-eq-KIND_WHILE : goal.convert_statement-returns-then-node-eq-KIND_WHILE
 unfolding counted
-convert_statement-returns-then-node-eq-KIND_WHILE t c = record { statement_as = commented_while c.requires.converting.0 c.requires.converting.1 c.requires.statement (omega arith) c.emit_comment.ensures c.kind-node.ensures (c.stated-then-node-eq-KIND_WHILE.ensures c.convert_while_loop.new.k) c.if-node-eq-KIND_WHILE.true c.convert_while_loop.ensures.finishes_as; visits = stated-visited _ _ _ _ (c.stated-then-node-eq-KIND_WHILE.ensures c.convert_while_loop.new.k) c.convert_while_loop.ensures.visits }
+convert_statement-returns-then-node-eq-KIND_WHILE t c = record { statement_as = commented_while c.requires.converting.0 c.requires.converting.1 c.requires.statement (omega arith) c.emit_comment.ensures c.kind-node.ensures (done-stated c.convert_while_loop.new.k c.args.c.scope c.in_ok-convert_while_loop.was) c.if-node-eq-KIND_WHILE.true c.convert_while_loop.ensures.finishes_as; visits = stated-visited _ _ _ _ (done-stated c.convert_while_loop.new.k c.args.c.scope c.in_ok-convert_while_loop.was) c.convert_while_loop.ensures.visits }
+
+pub convert_statement-returns-in_err-convert_while_loop : goal.convert_statement-returns-in_err-convert_while_loop
+unfolding counted
+convert_statement-returns-in_err-convert_while_loop t c = let p = err_from_is_err_and c.from_residual-in_err-convert_while_loop.result c.from_residual-in_err-convert_while_loop.ensures.1 in rw (p.1, p.2) (record { statement_as = commented_while c.requires.converting.0 c.requires.converting.1 c.requires.statement (omega arith) c.emit_comment.ensures c.kind-node.ensures (stop-stated c.convert_while_loop.new.k c.args.c.scope c.in_err-convert_while_loop.was) c.if-node-eq-KIND_WHILE.true c.convert_while_loop.ensures.finishes_as; visits = stated-visited _ _ _ _ (stop-stated c.convert_while_loop.new.k c.args.c.scope c.in_err-convert_while_loop.was) c.convert_while_loop.ensures.visits })
 
 pub convert_statement-convert_for_loop-requires : goal.convert_statement-convert_for_loop-requires
 unfolding counted
 convert_statement-convert_for_loop-requires t c = (omega (arith, c.decreases), ((comment_converting c.requires.converting.0 c.requires.converting.1 c.requires.statement (omega arith) c.emit_comment.ensures, comment_afforded c.requires.converting.0 c.requires.converting.1 c.requires.statement (omega arith) c.emit_comment.ensures), (record { below = c.requires.statement.below; kind = sym c.kind-node.ensures ∙ last-kind c.if-node-le-KIND_CALL_STATEMENT.false c.if-node-ge-KIND_BREAK.false c.if-node-eq-KIND_IF.false c.if-node-eq-KIND_WHILE.false }, comment_fresh c.requires.converting.0 c.requires.converting.1 c.requires.statement c.requires.turns c.emit_comment.ensures)))
 
-pub convert_statement-shape_of-arena : goal.convert_statement-shape_of-arena
-convert_statement-shape_of-arena t c = omega (arith, c.arena-1.given, c.arena-2-1.given)
-
-pub convert_statement-shape_of-scratch : goal.convert_statement-shape_of-scratch
-convert_statement-shape_of-scratch t c = omega (arith, c.scratch-2-1.given)
-
-pub convert_statement-shape_of-k : goal.convert_statement-shape_of-k
-convert_statement-shape_of-k t c = omega (arith, c.k-1.given, c.k-2-1.given)
-
 pub convert_statement-returns : goal.convert_statement-returns
 unfolding counted
-convert_statement-returns t c = record { statement_as = commented_for c.requires.converting.0 c.requires.converting.1 c.requires.statement (omega arith) c.emit_comment.ensures c.kind-node.ensures (c.stated-2.ensures c.convert_for_loop.new.k) (last-kind c.if-node-le-KIND_CALL_STATEMENT.false c.if-node-ge-KIND_BREAK.false c.if-node-eq-KIND_IF.false c.if-node-eq-KIND_WHILE.false) c.convert_for_loop.ensures.finishes_as; visits = stated-visited _ _ _ _ (c.stated-2.ensures c.convert_for_loop.new.k) c.convert_for_loop.ensures.visits }
+convert_statement-returns t c = record { statement_as = commented_for c.requires.converting.0 c.requires.converting.1 c.requires.statement (omega arith) c.emit_comment.ensures c.kind-node.ensures (done-stated c.convert_for_loop.new.k c.args.c.scope c.in_ok-convert_for_loop.was) (last-kind c.if-node-le-KIND_CALL_STATEMENT.false c.if-node-ge-KIND_BREAK.false c.if-node-eq-KIND_IF.false c.if-node-eq-KIND_WHILE.false) c.convert_for_loop.ensures.finishes_as; visits = stated-visited _ _ _ _ (done-stated c.convert_for_loop.new.k c.args.c.scope c.in_ok-convert_for_loop.was) c.convert_for_loop.ensures.visits }
+
+pub convert_statement-returns-in_err-convert_for_loop : goal.convert_statement-returns-in_err-convert_for_loop
+unfolding counted
+convert_statement-returns-in_err-convert_for_loop t c = let p = err_from_is_err_and c.from_residual-in_err-convert_for_loop.result c.from_residual-in_err-convert_for_loop.ensures.1 in rw (p.1, p.2) (record { statement_as = commented_for c.requires.converting.0 c.requires.converting.1 c.requires.statement (omega arith) c.emit_comment.ensures c.kind-node.ensures (stop-stated c.convert_for_loop.new.k c.args.c.scope c.in_err-convert_for_loop.was) (last-kind c.if-node-le-KIND_CALL_STATEMENT.false c.if-node-ge-KIND_BREAK.false c.if-node-eq-KIND_IF.false c.if-node-eq-KIND_WHILE.false) c.convert_for_loop.ensures.finishes_as; visits = stated-visited _ _ _ _ (stop-stated c.convert_for_loop.new.k c.args.c.scope c.in_err-convert_for_loop.was) c.convert_for_loop.ensures.visits })
 
 pub convert_while_loop-overflow_cast-r : goal.convert_while_loop-overflow_cast-r
 convert_while_loop-overflow_cast-r t c = omega (arith, c.requires.kind.below, c.requires.converting.0.ready.keyed.good.few)
@@ -302,43 +197,16 @@ pub convert_while_loop-while_head-requires : goal.convert_while_loop-while_head-
 convert_while_loop-while_head-requires t c = record { converting = (c.requires.converting.0, c.requires.converting.1); kind = c.requires.kind; in_turn = begun-in_turn c.requires.converting.0 c.requires.kind c.requires.fresh c.requires.converting.1 }
 
 pub convert_while_loop-convert_block-requires : goal.convert_while_loop-convert_block-requires
-convert_while_loop-convert_block-requires t c = let h = while_list c.requires.converting.0 c.requires.converting.1 c.requires.kind c.reference-body.ensures in (omega (arith, h.0, c.decreases), ((while_converting c.requires.converting.0 c.requires.converting.1 c.requires.kind c.while_head.ensures.head_as (ap (finished_with _) c.in-Done.is) c.with_loop-inner.ensures c.reference-body.ensures, while_afforded c.requires.converting.0 c.requires.converting.1 c.requires.kind c.while_head.ensures.head_as (ap (finished_with _) c.in-Done.is) c.with_loop-inner.ensures c.reference-body.ensures), (h.1, (head_visited c.requires.converting.0 c.requires.kind c.requires.fresh c.while_head.ensures.head_as (ap (finished_with _) c.in-Done.is) c.while_head.ensures.types).turns)))
+convert_while_loop-convert_block-requires t c = let h = while_list c.requires.converting.0 c.requires.converting.1 c.requires.kind c.reference-body.ensures in (omega (arith, h.0, c.decreases), ((while_converting c.requires.converting.0 c.requires.converting.1 c.requires.kind c.while_head.ensures.head_as (ap (finished_with _) c.in_ok-while_head.was) c.with_loop.ensures c.reference-body.ensures, while_afforded c.requires.converting.0 c.requires.converting.1 c.requires.kind c.while_head.ensures.head_as (ap (finished_with _) c.in_ok-while_head.was) c.with_loop.ensures c.reference-body.ensures), (h.1, (head_visited c.requires.converting.0 c.requires.kind c.requires.fresh c.while_head.ensures.head_as (ap (finished_with _) c.in_ok-while_head.was) c.while_head.ensures.types).turns)))
 
 pub convert_while_loop-loop_end-requires : goal.convert_while_loop-loop_end-requires
-convert_while_loop-loop_end-requires t c = while_room c.requires.converting.0 c.requires.converting.1 c.requires.kind c.while_head.ensures.head_as (ap (finished_with _) c.in-Done.is) c.with_loop-inner.ensures c.reference-body.ensures c.convert_block.ensures.block_as (ap (finished_with _) c.in-Done-convert_block.is)
+convert_while_loop-loop_end-requires t c = while_room c.requires.converting.0 c.requires.converting.1 c.requires.kind c.while_head.ensures.head_as (ap (finished_with _) c.in_ok-while_head.was) c.with_loop.ensures c.reference-body.ensures c.convert_block.ensures.block_as (ap (finished_with _) c.in_ok-convert_block.was)
 
-pub convert_while_loop-shape_of-arena-in-Refused : goal.convert_while_loop-shape_of-arena-in-Refused
-convert_while_loop-shape_of-arena-in-Refused t c = omega (arith, c.arena-1.given)
+pub convert_while_loop-returns-in_err-while_head : goal.convert_while_loop-returns-in_err-while_head
+convert_while_loop-returns-in_err-while_head t c = let p = err_from_is_err_and c.from_residual.result c.from_residual.ensures.1 in rw (p.1, p.2) (record { finishes_as = while_stop c.requires.converting.0 c.requires.converting.1 c.requires.kind c.while_head.ensures.head_as (ap (finished_with _) c.in_err-while_head.was); visits = λ k q. refused-finished k q })
 
-pub convert_while_loop-shape_of-scratch-in-Refused : goal.convert_while_loop-shape_of-scratch-in-Refused
-convert_while_loop-shape_of-scratch-in-Refused t c = omega (arith, c.scratch-1.given)
+pub convert_while_loop-returns-in_err-convert_block : goal.convert_while_loop-returns-in_err-convert_block
+convert_while_loop-returns-in_err-convert_block t c = let p = err_from_is_err_and c.from_residual-in_err-convert_block.result c.from_residual-in_err-convert_block.ensures.1 in rw (p.1, p.2) (record { finishes_as = while_body-stop c.requires.converting.0 c.requires.converting.1 c.requires.kind c.while_head.ensures.head_as (ap (finished_with _) c.in_ok-while_head.was) c.with_loop.ensures c.reference-body.ensures c.convert_block.ensures.block_as (ap (finished_with _) c.in_err-convert_block.was); visits = λ k q. refused-finished k q })
 
-pub convert_while_loop-shape_of-k-in-Refused : goal.convert_while_loop-shape_of-k-in-Refused
-convert_while_loop-shape_of-k-in-Refused t c = omega (arith, c.k-1.given)
-
-pub convert_while_loop-returns-in-Refused : goal.convert_while_loop-returns-in-Refused
-convert_while_loop-returns-in-Refused t c = record { finishes_as = while_stop c.requires.converting.0 c.requires.converting.1 c.requires.kind c.while_head.ensures.head_as (ap (finished_with _) c.in-Refused.is); visits = λ k q. refused-finished k q }
-
-pub convert_while_loop-shape_of-arena-in-Refused-convert_block : goal.convert_while_loop-shape_of-arena-in-Refused-convert_block
-convert_while_loop-shape_of-arena-in-Refused-convert_block t c = omega (arith, c.arena-1.given, c.arena-in-Done-1.given)
-
-pub convert_while_loop-shape_of-scratch-in-Refused-convert_block : goal.convert_while_loop-shape_of-scratch-in-Refused-convert_block
-convert_while_loop-shape_of-scratch-in-Refused-convert_block t c = omega (arith, c.scratch-1.given, c.scratch-in-Done-1.given)
-
-pub convert_while_loop-shape_of-k-in-Refused-convert_block : goal.convert_while_loop-shape_of-k-in-Refused-convert_block
-convert_while_loop-shape_of-k-in-Refused-convert_block t c = omega (arith, c.k-1.given, c.k-in-Done-1.given)
-
-pub convert_while_loop-returns-in-Refused-convert_block : goal.convert_while_loop-returns-in-Refused-convert_block
-convert_while_loop-returns-in-Refused-convert_block t c = record { finishes_as = while_body-stop c.requires.converting.0 c.requires.converting.1 c.requires.kind c.while_head.ensures.head_as (ap (finished_with _) c.in-Done.is) c.with_loop-inner.ensures c.reference-body.ensures c.convert_block.ensures.block_as (ap (finished_with _) c.in-Refused-convert_block.is); visits = λ k q. refused-finished k q }
-
-pub convert_while_loop-shape_of-arena-in-Done-convert_block : goal.convert_while_loop-shape_of-arena-in-Done-convert_block
-convert_while_loop-shape_of-arena-in-Done-convert_block t c = omega (arith, c.arena-1.given, c.arena-in-Done-1.given, c.arena-in-Done-convert_block-1.given)
-
-pub convert_while_loop-shape_of-scratch-in-Done-convert_block : goal.convert_while_loop-shape_of-scratch-in-Done-convert_block
-convert_while_loop-shape_of-scratch-in-Done-convert_block t c = omega (arith, c.scratch-1.given, c.scratch-in-Done-1.given)
-
-pub convert_while_loop-shape_of-k-in-Done-convert_block : goal.convert_while_loop-shape_of-k-in-Done-convert_block
-convert_while_loop-shape_of-k-in-Done-convert_block t c = omega (arith, c.k-1.given, c.k-in-Done-1.given, c.k-in-Done-convert_block-1.given)
-
-pub convert_while_loop-returns-in-Done-convert_block : goal.convert_while_loop-returns-in-Done-convert_block
-convert_while_loop-returns-in-Done-convert_block t c = record { finishes_as = while_next c.requires.converting.0 c.requires.converting.1 c.requires.kind c.while_head.ensures.head_as (ap (finished_with _) c.in-Done.is) c.with_loop-inner.ensures c.reference-body.ensures c.convert_block.ensures.block_as (ap (finished_with _) c.in-Done-convert_block.is) c.loop_end.ensures; visits = while_visited c.requires.converting.0 c.requires.kind c.requires.fresh c.while_head.ensures.head_as (ap (finished_with _) c.in-Done.is) c.while_head.ensures.types c.reference-body.ensures c.convert_block.ensures.visits (ap (finished_with _) c.in-Done-convert_block.is) c.loop_end.ensures refl }
+pub convert_while_loop-returns : goal.convert_while_loop-returns
+convert_while_loop-returns t c = record { finishes_as = while_next c.requires.converting.0 c.requires.converting.1 c.requires.kind c.while_head.ensures.head_as (ap (finished_with _) c.in_ok-while_head.was) c.with_loop.ensures c.reference-body.ensures c.convert_block.ensures.block_as (ap (finished_with _) c.in_ok-convert_block.was) c.loop_end.ensures; visits = while_visited c.requires.converting.0 c.requires.kind c.requires.fresh c.while_head.ensures.head_as (ap (finished_with _) c.in_ok-while_head.was) c.while_head.ensures.types c.reference-body.ensures c.convert_block.ensures.visits (ap (finished_with _) c.in_ok-convert_block.was) c.loop_end.ensures refl }

@@ -17,9 +17,6 @@ operand_at-o-requires c = omega (arith, c.requires.count_bound.0, c.requires.cou
 pub emit_arg-requires : goal.emit_arg-requires
 emit_arg-requires c = (c.loop-j.invariant.0.room.room, omega (arith, c.loop-j.invariant.0.room.affords))
 
-pub overflow_add-j : goal.overflow_add-j
-overflow_add-j c = omega (arith, c.requires.count_bound.0, c.requires.count_bound.1)
-
 pub loop-j-preserved : goal.loop-j-preserved
 loop-j-preserved c = (emit-turn _ _ _ _ _ _ _ _ _ c.loop-j.invariant.0 c.loop-j-test.true _ c.operand_at-o.ensures _ _ (omega arith) c.emit_arg.ensures, omega (arith, c.loop-j.invariant.1, c.k-1.given))
 

@@ -3,13 +3,9 @@
 use mathlib.Core.Path.{◌≡◌}
 use lib.ListN.{length}
 use Rattle.ir.specs.Counted.{counted}
-use Prim.Native.Nat.{◌-◌}
 use Rattle.records.specs.Words.{records}
 use Rattle.statements.proofs.FitTurns.{EmitLeft}
 use Rattle.statements.proofs.fits.emit_args.Given as goal
 
 abbrev pub invariant-loop-j : goal.invariant-loop-j
 invariant-loop-j l = EmitLeft l.scratch (records l.tree) l.first l.count (counted l.initial.k) l.initial.arena l.j (counted l.k) l.arena × (length l.k ≡ length l.initial.k)
-
-abbrev pub decreases-loop-j : goal.decreases-loop-j
-decreases-loop-j l = l.count - l.j

@@ -42,9 +42,6 @@ push_operand-requires c = omega (arith, c.requires.afforded.0.stack, c.requires.
 pub next_parameter-parameter-requires : goal.next_parameter-parameter-requires
 next_parameter-parameter-requires c = (c.requires.converting.0.ready.keyed.good, c.first_value-at.ensures.params)
 
-pub overflow_add-j : goal.overflow_add-j
-overflow_add-j c = omega (arith, c.requires.afforded.0.stack, c.requires.converting.0.ready.keyed.good.few, c.loop-j-test.true)
-
 pub loop-j-preserved : goal.loop-j-preserved
 loop-j-preserved c = (fit-turn _ _ _ _ _ _ _ _ _ _ _ _ _ _ _ c.loop-j.invariant.0 c.loop-j-test.true c.requires.afforded.0.stack c.requires.converting.0.ready.keyed.listed.room c.operand_at-o.result c.operand_at-o.ensures c.first_value-at.result c.first_value-at.ensures _ c.parameter_type-expected.ensures.0 (fitted _ c.fit_operand-fitted.result) _ (c.fit_operand-fitted.ensures _) _ c.push_operand.ensures.written c.push_operand.ensures.back _ c.next_parameter-parameter.ensures.0 c.next_parameter-parameter.ensures.1, omega (arith, c.loop-j.invariant.1, c.k-1.given))
 

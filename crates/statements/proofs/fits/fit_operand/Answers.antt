@@ -3,7 +3,7 @@
 use mathlib.Core.Path.{refl}
 use native.Mathlib.Omega.{arith}
 use Rattle.ir.proofs.AmountLaws.{less}
-use Rattle.statements.proofs.FitLaws.{fitted_as, bool-fits, string_fits, null_fits, variable_in_lem}
+use Rattle.statements.proofs.FitLaws.{fitted_as, plain-fits, variable_in_lem}
 use Rattle.statements.proofs.fits.fit_operand.Goals as goal
 
 pub fit_variable-requires : goal.fit_variable-requires
@@ -19,10 +19,4 @@ pub returns-in-Int : goal.returns-in-Int
 returns-in-Int c = λ text. fitted_as text _ _ _ c.in-Int.is (omega arith) (c.fit_int.ensures c.args.k.now text _ c.in-Int.field-1 c.in-Int.field-2 refl c.requires.room_for.0.room)
 
 pub returns-in-Bool : goal.returns-in-Bool
-returns-in-Bool c = λ text. bool-fits text _ _ c.requires.room_for.0.room _ c.in-Bool.is
-
-pub returns-in-DataAddress : goal.returns-in-DataAddress
-returns-in-DataAddress c = λ text. string_fits text _ _ c.requires.room_for.0.room _ c.in-DataAddress.is
-
-pub returns-in-Null : goal.returns-in-Null
-returns-in-Null c = λ text. null_fits text _ _ c.requires.room_for.0.room c.in-Null.is
+returns-in-Bool c = λ text. plain-fits text _ _ c.requires.room_for.0.room c.in-Bool.is

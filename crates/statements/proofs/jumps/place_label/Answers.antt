@@ -5,7 +5,7 @@ use native.Mathlib.Omega.{arith}
 use Rattle.statements.proofs.jumps.place_label.Goals as goal
 
 pub emit_label-requires : goal.emit_label-requires
-emit_label-requires c = let p = c.label_id-here.ensures in (p.next.room, omega (arith, c.requires.0.affords, p.spent))
+emit_label-requires c = let p = c.label-here.ensures in (p.next.room, omega (arith, c.requires.0.affords, p.spent))
 
 pub returns : goal.returns
 returns c = search place-adds

@@ -1,5 +1,6 @@
 -- The variable that a For declares, new in the scope of its body.
 -- By what the new variable and its name owe. Assumes nothing.
+use Rattle.statements.proofs.Absent.{none-left}
 use native.Mathlib.Omega.{arith}
 use Rattle.statements.proofs.ForLaws.{variable-inside, declare_asks, for_taken, for_done, refused-variable, declared_none}
 use Rattle.statements.proofs.loops.for_declared.Goals as goal
@@ -13,8 +14,8 @@ declare_name-requires c = declare_asks c.requires.converting.0 c.requires.conver
 pub error_at-requires : goal.error_at-requires
 error_at-requires c = omega (arith, c.requires.kind.0.below, c.requires.converting.0.ready.keyed.good.few)
 
-pub returns-in-Taken : goal.returns-in-Taken
-returns-in-Taken c = record { variable_as = for_taken c.requires.converting.0 c.requires.converting.1 c.requires.kind.0 c.requires.kind.1 c.requires.kind.2 c.word.ensures (omega arith) c.new_var-x.ensures _ c.declare_name.ensures c.in-Taken.is c.error_at.ensures; types = refused-variable }
+pub returns-in_default : goal.returns-in_default
+returns-in_default c = record { variable_as = for_taken c.requires.converting.0 c.requires.converting.1 c.requires.kind.0 c.requires.kind.1 c.requires.kind.2 c.word.ensures (omega arith) c.new_var-x.ensures _ c.declare_name.ensures (none-left _ c.in_default.not-Some) c.error_at.ensures; types = refused-variable }
 
-pub returns-in-Done : goal.returns-in-Done
-returns-in-Done c = record { variable_as = for_done c.requires.converting.0 c.requires.converting.1 c.requires.kind.0 c.requires.kind.1 c.requires.kind.2 c.word.ensures (omega arith) c.new_var-x.ensures _ c.declare_name.ensures c.in-Done.is; types = declared_none c.requires.converting.0 c.requires.converting.1 c.requires.kind.0 c.requires.kind.1 c.requires.kind.2 c.word.ensures (omega arith) c.new_var-x.ensures _ c.declare_name.ensures c.in-Done.is c.requires.in_turn }
+pub returns : goal.returns
+returns c = record { variable_as = for_done c.requires.converting.0 c.requires.converting.1 c.requires.kind.0 c.requires.kind.1 c.requires.kind.2 c.word.ensures (omega arith) c.new_var-x.ensures _ c.declare_name.ensures c.in-Some.is; types = declared_none c.requires.converting.0 c.requires.converting.1 c.requires.kind.0 c.requires.kind.1 c.requires.kind.2 c.word.ensures (omega arith) c.new_var-x.ensures _ c.declare_name.ensures c.in-Some.is c.requires.in_turn }

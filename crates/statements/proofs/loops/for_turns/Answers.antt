@@ -1,5 +1,6 @@
 -- A For from its variable on: the variable is an Int, both bounds are checked, then the first is copied and the second tested.
 -- By the form of the variable's type and what each part owes, one after the other. Assumes nothing.
+use Rattle.std.proofs.lemmas.Result.{err_from_is_err_and}
 use mathlib.Core.Path.{ap}
 use Rattle.statements.proofs.HeadLaws.{refused-finished}
 use native.Mathlib.Omega.{arith}
@@ -16,37 +17,16 @@ pub for_bounds-requires : goal.for_bounds-requires
 for_bounds-requires c = record { ready = (c.requires.converting.0.ready, c.requires.kind.0, c.requires.kind.1); by_index = λ k. c.requires.in_turn }
 
 pub for_begin-requires : goal.for_begin-requires
-for_begin-requires c = record { converting = (checks_converting c.requires.converting.0 (c.for_bounds.ensures.by_index_2 c.args.k.now), omega (arith, c.requires.converting.1)); kind = c.requires.kind; in_turn = checked_in_turn (at c.args.c c.args.k.now) c.requires.converting.0.ready.scoped (c.for_bounds.ensures.by_index_2 c.args.k.now) (c.for_bounds.ensures.types c.args.k.now) c.in-Done.is }
+for_begin-requires c = record { converting = (checks_converting c.requires.converting.0 (c.for_bounds.ensures.by_index_2 c.args.k.now), omega (arith, c.requires.converting.1)); kind = c.requires.kind; in_turn = checked_in_turn (at c.args.c c.args.k.now) c.requires.converting.0.ready.scoped (c.for_bounds.ensures.by_index_2 c.args.k.now) (c.for_bounds.ensures.types c.args.k.now) c.in_ok-for_bounds.was }
 
 pub for_test-requires : goal.for_test-requires
-for_test-requires c = record { converting = (finished_converting c.for_begin.ensures.bound_as.0 (ap (finished_with _) c.in-Done-for_begin.is) (checks_converting c.requires.converting.0 (c.for_bounds.ensures.by_index_2 c.args.k.now)), omega (arith, c.requires.converting.1, (finished-next c.for_begin.ensures.bound_as.0 (ap (finished_with _) c.in-Done-for_begin.is)).spent)); kind = c.requires.kind; in_turn = test-in_turn _ c.requires.converting.0 (c.for_bounds.ensures.by_index_2 c.args.k.now) c.for_begin.ensures.bound_as.0 c.for_begin.ensures.types (ap (finished_with _) c.in-Done-for_begin.is) }
+for_test-requires c = record { converting = (finished_converting c.for_begin.ensures.bound_as.0 (ap (finished_with _) c.in_ok-for_begin.was) (checks_converting c.requires.converting.0 (c.for_bounds.ensures.by_index_2 c.args.k.now)), omega (arith, c.requires.converting.1, (finished-next c.for_begin.ensures.bound_as.0 (ap (finished_with _) c.in_ok-for_begin.was)).spent)); kind = c.requires.kind; in_turn = test-in_turn _ c.requires.converting.0 (c.for_bounds.ensures.by_index_2 c.args.k.now) c.for_begin.ensures.bound_as.0 c.for_begin.ensures.types (ap (finished_with _) c.in_ok-for_begin.was) }
 
-pub shape_of-scratch-in-Refused : goal.shape_of-scratch-in-Refused
-shape_of-scratch-in-Refused c = omega (arith, c.scratch-1.given)
+pub returns-in_err-for_bounds : goal.returns-in_err-for_bounds
+returns-in_err-for_bounds c = let p = err_from_is_err_and c.from_residual.result c.from_residual.ensures.1 in rw (p.1, p.2) (record { turns_as = (turns_bounds_not _ _ c.requires.converting.0 c.form.ensures c.if-form-ne-FORM_INT.false (c.for_bounds.ensures.by_index_2 c.args.k.now) c.in_err-for_bounds.was, frame-names (c.for_bounds.ensures.by_index_2 c.args.k.now).frame); types = refused-finished })
 
-pub returns-in-Refused : goal.returns-in-Refused
-returns-in-Refused c = record { turns_as = (turns_bounds_not _ _ c.requires.converting.0 c.form.ensures c.if-form-ne-FORM_INT.false (c.for_bounds.ensures.by_index_2 c.args.k.now) c.in-Refused.is, frame-names (c.for_bounds.ensures.by_index_2 c.args.k.now).frame); types = refused-finished }
+pub returns-in_err-for_begin : goal.returns-in_err-for_begin
+returns-in_err-for_begin c = let p = err_from_is_err_and c.from_residual-in_err-for_begin.result c.from_residual-in_err-for_begin.ensures.1 in rw (p.1, p.2) (record { turns_as = (turns_begin_not _ _ c.requires.converting.0 c.form.ensures c.if-form-ne-FORM_INT.false (c.for_bounds.ensures.by_index_2 c.args.k.now) c.in_ok-for_bounds.was c.for_begin.ensures.bound_as.0 (ap (finished_with _) c.in_err-for_begin.was), names_then (frame-names (c.for_bounds.ensures.by_index_2 c.args.k.now).frame) c.for_begin.ensures.bound_as.1); types = refused-finished })
 
-pub shape_of-arena-in-Refused-for_begin : goal.shape_of-arena-in-Refused-for_begin
-shape_of-arena-in-Refused-for_begin c = omega (arith, c.arena-1.given)
-
-pub shape_of-scratch-in-Refused-for_begin : goal.shape_of-scratch-in-Refused-for_begin
-shape_of-scratch-in-Refused-for_begin c = omega (arith, c.scratch-1.given, c.scratch-in-Done-1.given)
-
-pub shape_of-k-in-Refused-for_begin : goal.shape_of-k-in-Refused-for_begin
-shape_of-k-in-Refused-for_begin c = omega (arith, c.k-1.given)
-
-pub returns-in-Refused-for_begin : goal.returns-in-Refused-for_begin
-returns-in-Refused-for_begin c = record { turns_as = (turns_begin_not _ _ c.requires.converting.0 c.form.ensures c.if-form-ne-FORM_INT.false (c.for_bounds.ensures.by_index_2 c.args.k.now) c.in-Done.is c.for_begin.ensures.bound_as.0 (ap (finished_with _) c.in-Refused-for_begin.is), names_then (frame-names (c.for_bounds.ensures.by_index_2 c.args.k.now).frame) c.for_begin.ensures.bound_as.1); types = refused-finished }
-
-pub shape_of-arena-in-Done-for_begin : goal.shape_of-arena-in-Done-for_begin
-shape_of-arena-in-Done-for_begin c = omega (arith, c.arena-1.given, c.arena-in-Done-for_begin-1.given)
-
-pub shape_of-scratch-in-Done-for_begin : goal.shape_of-scratch-in-Done-for_begin
-shape_of-scratch-in-Done-for_begin c = omega (arith, c.scratch-1.given, c.scratch-in-Done-1.given, c.scratch-in-Done-for_begin-1.given)
-
-pub shape_of-k-in-Done-for_begin : goal.shape_of-k-in-Done-for_begin
-shape_of-k-in-Done-for_begin c = omega (arith, c.k-1.given, c.k-in-Done-for_begin-1.given)
-
-pub returns-in-Done-for_begin : goal.returns-in-Done-for_begin
-returns-in-Done-for_begin c = record { turns_as = (finishes_most (omega arith) (turns_then _ _ c.requires.converting.0 c.form.ensures c.if-form-ne-FORM_INT.false (c.for_bounds.ensures.by_index_2 c.args.k.now) c.in-Done.is c.for_begin.ensures.bound_as.0 (ap (finished_with _) c.in-Done-for_begin.is) c.for_test.ensures.bound_as.0), names_then (names_then (frame-names (c.for_bounds.ensures.by_index_2 c.args.k.now).frame) c.for_begin.ensures.bound_as.1) c.for_test.ensures.bound_as.1); types = turns-typed _ c.requires.converting.0 (c.for_bounds.ensures.by_index_2 c.args.k.now) c.for_begin.ensures.bound_as.0 c.for_begin.ensures.types (ap (finished_with _) c.in-Done-for_begin.is) (c.for_bounds.ensures.types c.args.k.now) c.in-Done.is c.for_test.ensures.types }
+pub returns : goal.returns
+returns c = record { turns_as = (finishes_most (omega arith) (turns_then _ _ c.requires.converting.0 c.form.ensures c.if-form-ne-FORM_INT.false (c.for_bounds.ensures.by_index_2 c.args.k.now) c.in_ok-for_bounds.was c.for_begin.ensures.bound_as.0 (ap (finished_with _) c.in_ok-for_begin.was) c.for_test.ensures.bound_as.0), names_then (names_then (frame-names (c.for_bounds.ensures.by_index_2 c.args.k.now).frame) c.for_begin.ensures.bound_as.1) c.for_test.ensures.bound_as.1); types = turns-typed _ c.requires.converting.0 (c.for_bounds.ensures.by_index_2 c.args.k.now) c.for_begin.ensures.bound_as.0 c.for_begin.ensures.types (ap (finished_with _) c.in_ok-for_begin.was) (c.for_bounds.ensures.types c.args.k.now) c.in_ok-for_bounds.was c.for_test.ensures.types }

@@ -1,6 +1,6 @@
 -- The If before its then-block.
 -- The condition and then a jump. Assumes nothing.
-use native.Mathlib.Omega.{arith}
+use Rattle.std.proofs.lemmas.Result.{err_from_is_err_and}
 use mathlib.Core.Path.{ap}
 use Rattle.statements.specs.Turns.{value_types}
 use Rattle.statements.proofs.HeadLaws.{record_inside, if_mark, if_cond_requires, if_jump_requires, if-refused, if-done, refused-finished, operand-typed}
@@ -14,28 +14,10 @@ pub convert_cond-requires : goal.convert_cond-requires
 convert_cond-requires c = let h = if_cond_requires _ c.requires.converting.0 c.requires.converting.1 c.reference-e.ensures c.requires.kind in record { converting = h.0; expr = h.1; in_turn = c.requires.in_turn }
 
 pub jump_if_not-requires : goal.jump_if_not-requires
-jump_if_not-requires c = if_jump_requires _ c.requires.converting.0 c.requires.converting.1 c.reference-e.ensures c.convert_cond.ensures.converts_as c.requires.kind c.if_not_label-label.ensures (ap (converted _) c.in-Is.is)
+jump_if_not-requires c = if_jump_requires _ c.requires.converting.0 c.requires.converting.1 c.reference-e.ensures c.convert_cond.ensures.converts_as c.requires.kind (ap (converted _) c.in_ok-cond.was)
 
-pub shape_of-arena-in-Refused : goal.shape_of-arena-in-Refused
-shape_of-arena-in-Refused c = omega (arith, c.arena-1.given)
+pub returns-in_err-cond : goal.returns-in_err-cond
+returns-in_err-cond c = let p = err_from_is_err_and c.from_residual.result c.from_residual.ensures.1 in rw (p.1, p.2) (record { head_as = if-refused _ c.reference-e.ensures c.convert_cond.ensures.converts_as (ap (converted _) c.in_err-cond.was); types = refused-finished })
 
-pub shape_of-scratch-in-Refused : goal.shape_of-scratch-in-Refused
-shape_of-scratch-in-Refused c = omega (arith, c.scratch-1.given)
-
-pub shape_of-k-in-Refused : goal.shape_of-k-in-Refused
-shape_of-k-in-Refused c = omega (arith, c.k-1.given)
-
-pub returns-in-Refused : goal.returns-in-Refused
-returns-in-Refused c = record { head_as = if-refused _ c.reference-e.ensures c.convert_cond.ensures.converts_as (ap (converted _) c.in-Refused.is); types = refused-finished }
-
-pub shape_of-arena-in-Is : goal.shape_of-arena-in-Is
-shape_of-arena-in-Is c = omega (arith, c.arena-1.given, c.arena-in-Is-1.given)
-
-pub shape_of-scratch-in-Is : goal.shape_of-scratch-in-Is
-shape_of-scratch-in-Is c = omega (arith, c.scratch-1.given)
-
-pub shape_of-k-in-Is : goal.shape_of-k-in-Is
-shape_of-k-in-Is c = omega (arith, c.k-1.given, c.k-in-Is-1.given)
-
-pub returns-in-Is : goal.returns-in-Is
-returns-in-Is c = record { head_as = if-done _ c.reference-e.ensures c.convert_cond.ensures.converts_as c.if_not_label-label.ensures (ap (converted _) c.in-Is.is) c.jump_if_not.ensures; types = operand-typed value_types (at c.args.c c.args.k.now) c.reference-e.ensures c.convert_cond.ensures.types (ap (converted _) c.in-Is.is) }
+pub returns : goal.returns
+returns c = record { head_as = if-done _ c.reference-e.ensures c.convert_cond.ensures.converts_as c.if_not_label-label.ensures (ap (converted _) c.in_ok-cond.was) c.jump_if_not.ensures; types = operand-typed value_types (at c.args.c c.args.k.now) c.reference-e.ensures c.convert_cond.ensures.types (ap (converted _) c.in_ok-cond.was) }

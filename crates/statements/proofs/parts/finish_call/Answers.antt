@@ -1,10 +1,12 @@
 -- A call behind its values, by what it runs.
 -- A variable, and then the cast or the call. Assumes nothing.
 use Rattle.ir.proofs.StepLaws.{next_in}
-use Rattle.statements.proofs.AroundLaws.{variable_type_lem, callee-refused, callee-cast, callee-function, function-callee, finish-cast, finish-function}
+use Rattle.statements.proofs.AroundLaws.{variable_type_lem, callee-cast, callee-function, function-callee, finish-cast, finish-function}
 use Rattle.statements.proofs.StayLaws.{stays_refl, converting_next}
 use Rattle.statements.proofs.TurnLaws.{turns_refl}
 use native.Mathlib.Omega.{arith}
+use mathlib.Core.Path.{ap}
+use Rattle.std.specs.Prelude.{Ok}
 use Rattle.statements.proofs.parts.finish_call.Goals as goal
 
 pub overflow_cast-y : goal.overflow_cast-y
@@ -17,34 +19,10 @@ pub cast_first-requires : goal.cast_first-requires
 cast_first-requires c = record { converting = (converting_next c.requires.converting.0 (next_in _ c.new_var-dest.ensures.next) (stays_refl _ _ _ _), omega (arith, c.requires.converting.1, c.new_var-dest.ensures.spent)); e_bound = (omega (arith, c.requires.kind.0.below, c.requires.converting.0.ready.keyed.good.few), variable_type_lem c.new_var-dest.ensures.typed c.requires.kind.1) }
 
 pub call_function-requires : goal.call_function-requires
-call_function-requires c = record { converting = (converting_next c.requires.converting.0 (next_in _ c.new_var-dest.ensures.next) (stays_refl _ _ _ _), omega (arith, c.requires.converting.1, c.new_var-dest.ensures.spent)); function_at = (function-callee c.requires.kind.2 c.in-Function.is, c.requires.kind.0, variable_type_lem c.new_var-dest.ensures.typed c.requires.kind.1, c.requires.kind.3) }
-
-pub shape_of-arena-in-Refused : goal.shape_of-arena-in-Refused
-shape_of-arena-in-Refused c = omega (arith, c.arena-1.given)
-
-pub shape_of-k-in-Refused : goal.shape_of-k-in-Refused
-shape_of-k-in-Refused c = omega (arith, c.k-1.given)
-
-pub returns-in-Refused : goal.returns-in-Refused
-returns-in-Refused c = record { call_ends_as = (λ to m. absurd (callee-refused _ _ m c.in-Refused.is)); turns = turns_refl _ _ }
-
-pub shape_of-arena-in-Cast : goal.shape_of-arena-in-Cast
-shape_of-arena-in-Cast c = omega (arith, c.arena-1.given, c.arena-in-Cast-1.given)
-
-pub shape_of-k-in-Cast : goal.shape_of-k-in-Cast
-shape_of-k-in-Cast c = omega (arith, c.k-1.given, c.k-in-Cast-1.given)
+call_function-requires c = record { converting = (converting_next c.requires.converting.0 (next_in _ c.new_var-dest.ensures.next) (stays_refl _ _ _ _), omega (arith, c.requires.converting.1, c.new_var-dest.ensures.spent)); function_at = (function-callee c.requires.kind.2 (ap Ok c.in-Function.is), c.requires.kind.0, variable_type_lem c.new_var-dest.ensures.typed c.requires.kind.1, c.requires.kind.3) }
 
 pub returns-in-Cast : goal.returns-in-Cast
-returns-in-Cast c = record { call_ends_as = (λ to m. finish-cast _ _ _ (omega arith) c.new_var-dest.ensures (callee-cast _ _ m c.in-Cast.is) c.cast_first.ensures); turns = turns_refl _ _ }
-
-pub shape_of-arena-in-Function : goal.shape_of-arena-in-Function
-shape_of-arena-in-Function c = omega (arith, c.arena-1.given, c.arena-in-Function-1.given)
-
-pub shape_of-scratch-in-Function : goal.shape_of-scratch-in-Function
-shape_of-scratch-in-Function c = omega (arith, c.scratch-1.given)
-
-pub shape_of-k-in-Function : goal.shape_of-k-in-Function
-shape_of-k-in-Function c = omega (arith, c.k-1.given, c.k-in-Function-1.given)
+returns-in-Cast c = record { call_ends_as = (λ to m. finish-cast _ _ _ (omega arith) c.new_var-dest.ensures (callee-cast _ _ m (ap Ok c.in-Cast.is)) c.cast_first.ensures); turns = turns_refl _ _ }
 
 pub returns-in-Function : goal.returns-in-Function
-returns-in-Function c = record { call_ends_as = (λ to m. finish-function _ _ _ (omega arith) c.new_var-dest.ensures _ (callee-function _ _ m c.in-Function.is) c.call_function.ensures.calls_as); turns = c.call_function.ensures.turns }
+returns-in-Function c = record { call_ends_as = (λ to m. finish-function _ _ _ (omega arith) c.new_var-dest.ensures _ (callee-function _ _ m (ap Ok c.in-Function.is)) c.call_function.ensures.calls_as); turns = c.call_function.ensures.turns }

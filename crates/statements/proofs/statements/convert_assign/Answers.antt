@@ -5,8 +5,8 @@ use Rattle.statements.proofs.PlainTurns.{refused-stated}
 use Rattle.statements.proofs.InitLaws.{assign-constant, assign_plain}
 use Rattle.statements.proofs.statements.convert_assign.Goals as goal
 
-pub returns-then-constant : goal.returns-then-constant
-returns-then-constant c = record { states_as = assign-constant c.args.r c.args.v c.if-constant.true c.error_at.ensures; types = refused-stated }
+pub returns-then-known : goal.returns-then-known
+returns-then-known c = record { states_as = assign-constant c.args.r c.args.known.var c.if-known.true c.error_at.ensures; types = refused-stated }
 
 pub shape_of-arena : goal.shape_of-arena
 shape_of-arena c = omega (arith, c.arena-1.given)
@@ -18,4 +18,4 @@ pub shape_of-k : goal.shape_of-k
 shape_of-k c = omega (arith, c.k-1.given)
 
 pub returns : goal.returns
-returns c = record { states_as = assign_plain c.args.r c.args.v c.if-constant.false c.assign_to.ensures.states_as; types = c.assign_to.ensures.types }
+returns c = record { states_as = assign_plain c.args.r c.args.known.var c.if-known.false c.assign_to.ensures.states_as; types = c.assign_to.ensures.types }

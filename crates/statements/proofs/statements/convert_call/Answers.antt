@@ -1,6 +1,6 @@
 -- A call statement, by whether its expression is a call.
 -- One that is none is typed and never converted. Assumes nothing.
-use native.Mathlib.Omega.{arith}
+use Rattle.std.proofs.lemmas.Result.{err_from_is_err_and}
 use mathlib.Core.Path.{sym, ◌∙◌}
 use Rattle.expressions.proofs.TypingLaws.{expr-low}
 use Rattle.statements.proofs.PlainTurns.{typing_in, refused-stated}
@@ -13,29 +13,14 @@ kind-requires c = (called_expr c.requires.converting.0.ready.keyed.good c.refere
 pub call_statement-requires : goal.call_statement-requires
 call_statement-requires c = record { converting = c.requires.converting; kind = (c.requires.kind, record { below = expr-low _ _ c.requires.converting.0.ready.keyed.good _ (called_expr c.requires.converting.0.ready.keyed.good c.reference-e.ensures c.requires.kind); kind = sym c.kind.ensures ∙ c.if-kind-eq-KIND_CALL.true }, c.reference-e.ensures); in_turn = c.requires.in_turn }
 
-pub shape_of-arena-then-kind-eq-KIND_CALL : goal.shape_of-arena-then-kind-eq-KIND_CALL
-shape_of-arena-then-kind-eq-KIND_CALL c = omega (arith, c.arena-1.given)
-
-pub shape_of-scratch-then-kind-eq-KIND_CALL : goal.shape_of-scratch-then-kind-eq-KIND_CALL
-shape_of-scratch-then-kind-eq-KIND_CALL c = omega (arith, c.scratch-1.given)
-
-pub shape_of-k-then-kind-eq-KIND_CALL : goal.shape_of-k-then-kind-eq-KIND_CALL
-shape_of-k-then-kind-eq-KIND_CALL c = omega (arith, c.k-1.given)
-
 pub returns-then-kind-eq-KIND_CALL : goal.returns-then-kind-eq-KIND_CALL
 returns-then-kind-eq-KIND_CALL c = record { states_as = c.call_statement.ensures.states_as; types = c.call_statement.ensures.types }
 
 pub get_type-requires : goal.get_type-requires
 get_type-requires c = record { typing = typing_in c.requires.converting.0 c.requires.in_turn; expr = called_expr c.requires.converting.0.ready.keyed.good c.reference-e.ensures c.requires.kind }
 
-pub shape_of-scratch-in-Refused : goal.shape_of-scratch-in-Refused
-shape_of-scratch-in-Refused c = omega (arith, c.scratch-2-1.given)
+pub returns-in_err-get_type : goal.returns-in_err-get_type
+returns-in_err-get_type c = let p = err_from_is_err_and c.from_residual.result c.from_residual.ensures.1 in rw (p.1, p.2) (record { states_as = typed-stop c.requires.converting.0 c.requires.converting.1 c.requires.kind c.reference-e.ensures c.kind.ensures c.if-kind-eq-KIND_CALL.false c.get_type.ensures c.in_err-get_type.was; types = refused-stated })
 
-pub returns-in-Refused : goal.returns-in-Refused
-returns-in-Refused c = record { states_as = typed-stop c.requires.converting.0 c.requires.converting.1 c.requires.kind c.reference-e.ensures c.kind.ensures c.if-kind-eq-KIND_CALL.false c.get_type.ensures c.in-Refused.is; types = refused-stated }
-
-pub shape_of-scratch-in-Is : goal.shape_of-scratch-in-Is
-shape_of-scratch-in-Is c = omega (arith, c.scratch-2-1.given)
-
-pub returns-in-Is : goal.returns-in-Is
-returns-in-Is c = record { states_as = typed-only c.requires.converting.0 c.requires.converting.1 c.requires.kind c.reference-e.ensures c.kind.ensures c.if-kind-eq-KIND_CALL.false c.get_type.ensures c.in-Is.is; types = λ _ _ _. only-types c.requires.converting.0 c.requires.converting.1 c.requires.kind c.reference-e.ensures c.kind.ensures c.if-kind-eq-KIND_CALL.false c.get_type.ensures c.in-Is.is }
+pub returns : goal.returns
+returns c = record { states_as = typed-only c.requires.converting.0 c.requires.converting.1 c.requires.kind c.reference-e.ensures c.kind.ensures c.if-kind-eq-KIND_CALL.false c.get_type.ensures c.in_ok-get_type.was; types = λ _ _ _. only-types c.requires.converting.0 c.requires.converting.1 c.requires.kind c.reference-e.ensures c.kind.ensures c.if-kind-eq-KIND_CALL.false c.get_type.ensures c.in_ok-get_type.was }

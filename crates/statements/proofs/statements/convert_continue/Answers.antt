@@ -1,14 +1,7 @@
--- A Continue jumps to the start of the innermost loop; outside of all it is refused.
--- By what `in_loop` answers. Assumes nothing.
-use Rattle.statements.proofs.DeclareLaws.{jump_asks, continue_outside, continue_jumps}
-use native.Mathlib.Omega.{arith}
+-- A Continue is its jump in the innermost loop.
+-- By what the jump owes. Assumes nothing.
+use Rattle.statements.proofs.DeclareLaws.{continue_states}
 use Rattle.statements.proofs.statements.convert_continue.Goals as goal
 
-pub jump-requires : goal.jump-requires
-jump-requires c = jump_asks c.requires.converting.0 _ _ c.in_loop.ensures 1 (omega arith) (omega arith) c.requires.converting.1 c.in-Of.is
-
-pub returns-in-Outside : goal.returns-in-Outside
-returns-in-Outside c = continue_outside c.requires.converting.0 _ _ c.in_loop.ensures c.in-Outside.is c.error_at.ensures
-
-pub returns-in-Of : goal.returns-in-Of
-returns-in-Of c = continue_jumps c.requires.converting.0 _ _ c.in_loop.ensures c.in-Of.is c.jump.ensures
+pub returns : goal.returns
+returns c = continue_states c.requires.converting.0 c.args.r c.jump_in_loop.ensures

@@ -1,6 +1,6 @@
 -- A Return, by the type of its value and that of its function.
 -- Typed first; the function's type is word D of its record. Assumes nothing.
-use native.Mathlib.Omega.{arith}
+use Rattle.std.proofs.lemmas.Result.{err_from_is_err_and}
 use Rattle.expressions.proofs.TypingLaws.{is-typed}
 use Rattle.statements.proofs.PlainTurns.{typing_in, refused-stated}
 use Rattle.statements.proofs.TypedLaws.{typed-in_turn}
@@ -11,29 +11,14 @@ use Rattle.statements.proofs.statements.convert_return.Goals as goal
 pub get_type-requires : goal.get_type-requires
 get_type-requires c = record { typing = typing_in c.requires.converting.0 c.requires.in_turn; expr = return-expr c.requires.converting.0.ready.keyed.good c.reference-e.ensures c.requires.kind }
 
-pub shape_of-scratch-then-expected : goal.shape_of-scratch-then-expected
-shape_of-scratch-then-expected c = omega (arith, c.scratch-1.given)
-
 pub returns-then-expected : goal.returns-then-expected
-returns-then-expected c = record { states_as = return-none c.requires.converting.0 c.requires.kind c.reference-e.ensures c.get_type.ensures c.reference-expected.ensures c.in-Is.is c.if-expected.true c.error_at.ensures; types = refused-stated }
+returns-then-expected c = record { states_as = return-none c.requires.converting.0 c.requires.kind c.reference-e.ensures c.get_type.ensures c.reference-expected.ensures c.in_ok-y.was c.if-expected.true c.error_at.ensures; types = refused-stated }
 
 pub return_as-requires : goal.return_as-requires
-return_as-requires c = record { converting = (type_converting c.requires.converting.0 c.get_type.ensures, c.requires.converting.1); kind = (c.requires.kind, is-typed _ _ _ c.get_type.ensures.typed c.in-Is.is, expected_type_lem c.requires.converting.0 c.requires.kind c.reference-e.ensures c.get_type.ensures c.reference-expected.ensures c.if-expected.false); in_turn = typed-in_turn c.requires.converting.0 c.get_type.ensures c.in-Is.is }
+return_as-requires c = record { converting = (type_converting c.requires.converting.0 c.get_type.ensures, c.requires.converting.1); kind = (c.requires.kind, is-typed _ _ _ c.get_type.ensures.typed c.in_ok-y.was, expected_type_lem c.requires.converting.0 c.requires.kind c.reference-e.ensures c.get_type.ensures c.reference-expected.ensures c.if-expected.false); in_turn = typed-in_turn c.requires.converting.0 c.get_type.ensures c.in_ok-y.was }
 
-pub shape_of-scratch-in-Refused : goal.shape_of-scratch-in-Refused
-shape_of-scratch-in-Refused c = omega (arith, c.scratch-1.given)
+pub returns-in_err-y : goal.returns-in_err-y
+returns-in_err-y c = let p = err_from_is_err_and c.from_residual.result c.from_residual.ensures.1 in rw (p.1, p.2) (record { states_as = return_untyped c.requires.converting.0 c.requires.kind c.reference-e.ensures c.get_type.ensures c.in_err-y.was; types = refused-stated })
 
-pub returns-in-Refused : goal.returns-in-Refused
-returns-in-Refused c = record { states_as = return_untyped c.requires.converting.0 c.requires.kind c.reference-e.ensures c.get_type.ensures c.in-Refused.is; types = refused-stated }
-
-pub shape_of-arena : goal.shape_of-arena
-shape_of-arena c = omega (arith, c.arena-1.given)
-
-pub shape_of-scratch-else-expected : goal.shape_of-scratch-else-expected
-shape_of-scratch-else-expected c = omega (arith, c.scratch-1.given, c.scratch-in-Is-1.given)
-
-pub shape_of-k : goal.shape_of-k
-shape_of-k c = omega (arith, c.k-1.given)
-
-pub returns-else-expected : goal.returns-else-expected
-returns-else-expected c = record { states_as = return_some c.requires.converting.0 c.requires.kind c.reference-e.ensures c.get_type.ensures c.reference-expected.ensures c.in-Is.is c.if-expected.false c.return_as.ensures.states_as; types = λ sc k h. return-next c.requires.converting.0 c.requires.kind c.reference-e.ensures c.get_type.ensures c.in-Is.is (c.return_as.ensures.types sc k h) }
+pub returns : goal.returns
+returns c = record { states_as = return_some c.requires.converting.0 c.requires.kind c.reference-e.ensures c.get_type.ensures c.reference-expected.ensures c.in_ok-y.was c.if-expected.false c.return_as.ensures.states_as; types = λ sc k h. return-next c.requires.converting.0 c.requires.kind c.reference-e.ensures c.get_type.ensures c.in_ok-y.was (c.return_as.ensures.types sc k h) }

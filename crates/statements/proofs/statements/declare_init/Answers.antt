@@ -1,5 +1,6 @@
 -- An Init of a new name behind its value: the variable, then the name, then the copy.
 -- By what declaring answers. Assumes nothing.
+use Rattle.statements.proofs.Absent.{none-left}
 use native.Mathlib.Omega.{arith}
 use Rattle.statements.proofs.PlainTurns.{refused-stated}
 use Rattle.statements.proofs.InitLaws.{new_type_lem, new_requires, new-taken, new_declared, new-types}
@@ -17,8 +18,8 @@ error_at-requires c = omega (arith, c.requires.kind.0.below, c.requires.converti
 pub emit_copy-requires : goal.emit_copy-requires
 emit_copy-requires c = (c.new_var-v.ensures.next.room, omega (arith, c.requires.converting.1.tables, c.new_var-v.ensures.spent))
 
-pub returns-in-Taken : goal.returns-in-Taken
-returns-in-Taken c = record { declares_as = new-taken c.requires.converting.0 c.requires.converting.1 c.requires.kind.0 c.requires.kind.1 c.init_type.ensures (omega (arith, c.arena-1.given)) c.new_var-v.ensures c.args.src c.detail-constant.ensures c.declare_name.ensures c.in-Taken.is c.error_at.ensures; types = refused-stated }
+pub returns-in_default : goal.returns-in_default
+returns-in_default c = record { declares_as = new-taken c.requires.converting.0 c.requires.converting.1 c.requires.kind.0 c.requires.kind.1 c.init_type.ensures (omega (arith, c.arena-1.given)) c.new_var-v.ensures c.args.src c.detail-constant.ensures c.declare_name.ensures (none-left _ c.in_default.not-Some) c.error_at.ensures; types = refused-stated }
 
-pub returns-in-Done : goal.returns-in-Done
-returns-in-Done c = record { declares_as = new_declared c.requires.converting.0 c.requires.converting.1 c.requires.kind.0 c.requires.kind.1 c.init_type.ensures (omega (arith, c.arena-1.given)) c.new_var-v.ensures c.args.src c.detail-constant.ensures c.declare_name.ensures c.in-Done.is (omega (arith, c.arena-in-Done-1.given)) c.emit_copy.ensures; types = λ _ _ _. new-types c.requires.converting.0 c.requires.converting.1 c.requires.kind.0 c.requires.kind.1 c.init_type.ensures (omega (arith, c.arena-1.given)) c.new_var-v.ensures c.args.src c.detail-constant.ensures c.declare_name.ensures c.in-Done.is c.requires.in_turn }
+pub returns : goal.returns
+returns c = record { declares_as = new_declared c.requires.converting.0 c.requires.converting.1 c.requires.kind.0 c.requires.kind.1 c.init_type.ensures (omega (arith, c.arena-1.given)) c.new_var-v.ensures c.args.src c.detail-constant.ensures c.declare_name.ensures c.in-Some.is (omega arith) c.emit_copy.ensures; types = λ _ _ _. new-types c.requires.converting.0 c.requires.converting.1 c.requires.kind.0 c.requires.kind.1 c.init_type.ensures (omega (arith, c.arena-1.given)) c.new_var-v.ensures c.args.src c.detail-constant.ensures c.declare_name.ensures c.in-Some.is c.requires.in_turn }

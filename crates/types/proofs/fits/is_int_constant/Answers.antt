@@ -1,9 +1,7 @@
--- Whether an expression folds to an integer. Each answer is a case of `FitsCases`. Assumes nothing.
-use Rattle.types.proofs.FitsCases.{int_some, int_none}
+-- Whether an expression folds to an integer: a case of `FitsCases`. Assumes nothing.
+use mathlib.Core.Path.{◌∙◌}
+use Rattle.types.proofs.FitsCases.{int-is_some}
 use Rattle.types.proofs.fits.is_int_constant.Goals as goal
 
-pub returns-in-Value : goal.returns-in-Value
-returns-in-Value c text = int_some _ c.int_value.result (c.int_value.ensures text) _ c.in-Value.is
-
-pub returns-in-Nothing : goal.returns-in-Nothing
-returns-in-Nothing c text = int_none _ c.int_value.result (c.int_value.ensures text) c.in-Nothing.is
+pub returns : goal.returns
+returns c text = c.is_some.ensures ∙ int-is_some _ c.int_value.result (c.int_value.ensures text)

@@ -1,0 +1,10 @@
+-- `bitxor` of an `Int128` meets its contract: the operation works on each half by itself.
+-- `Bitwise.by_halves` at the library's law of this operation.
+use lib.Bits.{bit_xor, xor_block}
+use Rattle.int128.proofs.Bitwise.{by_halves}
+use borrow.Author.Rules.{rules}
+use Rattle.int128.proofs.bits.Int128BitXor.bitxor.Goals as goal
+
+pub returns : goal.returns
+returns c = let s = c.args in
+    by_halves bit_xor xor_block s.self s.other (search rules) (search rules)

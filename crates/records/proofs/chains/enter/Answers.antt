@@ -1,7 +1,0 @@
--- Number r's entry and then the head of its bucket are written.
--- From what the two writes ensure. Assumes nothing.
-use Rattle.records.proofs.ChainedLaws.{two_writes}
-use Rattle.records.proofs.chains.enter.Goals as goal
-
-pub returns : goal.returns
-returns c = two_writes _ _ _ _ _ _ _ c.put_pair.ensures c.put_word.ensures
