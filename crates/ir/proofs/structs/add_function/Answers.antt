@@ -6,6 +6,5 @@ use Rattle.records.proofs.WordLaws.{put_eight}
 use Rattle.ir.proofs.structs.add_function.Goals as goal
 
 pub returns : goal.returns
-returns c = let entry = c in
-    function-done _ _ _ c.mark.ensures _ _ _ c.requires.0 c.requires.1
+returns c = function-done _ _ _ c.mark.ensures _ _ _ c.requires.0 c.requires.1
     (put_eight _ _ _ _ _ _ _ _ _ _ _ _ (omega (arith, c.requires)) c.put_four.ensures c.put_four-2.ensures)
