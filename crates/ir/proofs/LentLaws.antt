@@ -19,7 +19,7 @@ use Rattle.ir.specs.declared.pool.PoolNumber.{PoolNumber}
 use Rattle.ir.specs.Instructions.{field_bytes}
 use Rattle.ir.specs.Arena.{Room}
 use Rattle.ir.specs.Counted.{labels_before_word, counter_words, counted}
-use Rattle.ir.specs.Steps.{more_labels, more_strings, more_floats, WroteTwo, WroteThree, TablesStay, Emits, AddsVar, NumbersLabel, NumbersString, NumbersFloat, Closes, Next}
+use Rattle.ir.specs.Steps.{more_labels, more_strings, more_floats, WroteTwo, WroteThree, TablesStay, Emits, AddsVar, NumbersLabel, NumbersString, NumbersFloat, Closes}
 use Rattle.ir.proofs.Answers.{emit-done}
 
 -- ---- all ten words are there
@@ -64,13 +64,6 @@ words_with k v = record { records = get_or k 0 0; instructions = get_or k 1 0; v
 pub counted-are : (k : List ℕ) → counter_words ≤ length k → words_with k (get_or k 9 0) ≡ counted k
 unfolding counted
 counted-are k h = ap (words_with k) (last_word k h)
-
--- what is known of one is known of its equal
-pub room-read : {c d : Counters} {l : List ℕ} → c ≡ d → Room d l → Room c l
-room-read {l = l} e room = subst (λ (x : Counters). Room x l) (sym e) room
-
-pub next-read : {A : Type 0} {m : M A} {c d : Counters} {l : List ℕ} {a : A} → c ≡ d → Next m c l a c l → Next m d l a d l
-next-read {m = m} {l = l} {a = a} e h = subst (λ (x : Counters). Next m x l a x l) e h
 
 -- ---- a store to one word
 

@@ -37,7 +37,7 @@ pub enum InstructionKind {
 // Tags of operands.
 #[derive(Clone, Copy, Debug, PartialEq, Eq)]
 pub enum Tag {
-    Nothing,
+    Nothing = 0,
     Variable,
     Int,
     IntShort,

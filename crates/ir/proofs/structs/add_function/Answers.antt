@@ -9,6 +9,5 @@ use Rattle.ir.proofs.structs.add_function.Goals as goal
 
 pub returns : goal.returns
 unfolding bool_number
-returns c =
-    function-done _ _ _ (search rules) _ _ _ c.requires.0 c.requires.1
+returns c = function-done _ _ _ (search rules) _ _ _ c.requires.0 c.requires.1
     (put_eight _ _ _ _ _ _ _ _ _ _ _ _ (omega (arith, c.requires)) c.put_four.ensures c.put_four-2.ensures)
