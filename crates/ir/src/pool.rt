@@ -14,17 +14,10 @@ use crate::arena::{
 };
 use crate::floats::{FloatBits, entry_bits};
 use crate::search::walk_float;
-use crate::structs::Counters;
+use crate::structs::{Counters, Numbered};
 use records::words::{
     Four, SECOND_WORD, THIRD_WORD, high, index, load, low, mark, put_four, put_pair, put_word,
 };
-
-// An entry's number, and the counters that count it.
-#[derive(Clone, Copy)]
-pub struct PoolNumber {
-    pub number: u32,
-    pub counters: Counters,
-}
 
 // Whether there is a string i, and its text has the number o.
 fn has_number(arena: &[u8], k: Counters, i: usize, o: usize) -> bool
@@ -38,9 +31,9 @@ fn has_number(arena: &[u8], k: Counters, i: usize, o: usize) -> bool
 }
 
 // A string more, at this place, whose text has the number o: its own number goes to the slot of that.
-fn add_string(arena: &mut [u8], k: Counters, o: usize, offset: u32, len: u32) -> PoolNumber
+fn add_string(arena: &mut [u8], k: Counters, o: usize, offset: u32, len: u32) -> Numbered<u32>
     requires { Room k arena.old × (k.strings < k.records) × (o < k.records) }
-    ensures { (result.number ≡ k.strings) × StringAdded o offset len k arena.old result.counters arena.new }
+    ensures { (result.value ≡ k.strings) × StringAdded o offset len k arena.old result.counters arena.new }
 {
     let v = k.strings;
     let number = v as u32;
@@ -51,8 +44,8 @@ fn add_string(arena: &mut [u8], k: Counters, o: usize, offset: u32, len: u32) ->
         o as u32,
     );
     put_word(arena, STRING_SLOTS * k.records + SEARCH_BYTES * o, number);
-    PoolNumber {
-        number,
+    Numbered {
+        value: number,
         counters: Counters {
             strings: v + 1,
             ..k
@@ -62,14 +55,14 @@ fn add_string(arena: &mut [u8], k: Counters, o: usize, offset: u32, len: u32) ->
 
 // The string whose text has the number o, its entry the place of its first use. The slot of the number has the string, or what nobody wrote there: the number
 // beside the string tells. So no text is read.
-pub fn string_id(arena: &mut [u8], k: Counters, o: usize, offset: u32, len: u32) -> PoolNumber
+pub fn string_id(arena: &mut [u8], k: Counters, o: usize, offset: u32, len: u32) -> Numbered<u32>
     requires { Room k arena.old × (k.strings < k.records) × (o < k.records) }
     ensures { NumbersString o offset len k arena.old result arena.new }
 {
     let number = load(arena, STRING_SLOTS * k.records + SEARCH_BYTES * o);
     if has_number(arena, k, index(number), o) {
-        return PoolNumber {
-            number,
+        return Numbered {
+            value: number,
             counters: k,
         };
     }
@@ -119,9 +112,9 @@ fn float_head(arena: &[u8], k: Counters, b: usize) -> usize
 }
 
 // A float more, before the others of its bucket b, of which `last` is one past the last.
-fn add_float(arena: &mut [u8], k: Counters, w: Four, b: usize, last: usize) -> PoolNumber
+fn add_float(arena: &mut [u8], k: Counters, w: Four, b: usize, last: usize) -> Numbered<u32>
     requires { Room k arena.old × (k.floats < 2 * k.records) × (b < k.records) × (last ≤ k.floats) }
-    ensures { (result.number ≡ k.floats) × FloatAdded (word w.0 ++ word w.1 ++ word w.2 ++ word w.3) b last k arena.old result.counters arena.new }
+    ensures { (result.value ≡ k.floats) × FloatAdded (word w.0 ++ word w.1 ++ word w.2 ++ word w.3) b last k arena.old result.counters arena.new }
 {
     let v = k.floats;
     let number = v as u32;
@@ -133,14 +126,14 @@ fn add_float(arena: &mut [u8], k: Counters, w: Four, b: usize, last: usize) -> P
         FLOAT_HEADS * k.records + SEARCH_BYTES * b,
         number,
     );
-    PoolNumber {
-        number,
+    Numbered {
+        value: number,
         counters: Counters { floats: v + 1, ..k },
     }
 }
 
 // The float with these bits and this mark, looked for among those of its bucket.
-pub fn float_id(arena: &mut [u8], k: Counters, f: FloatBits) -> PoolNumber
+pub fn float_id(arena: &mut [u8], k: Counters, f: FloatBits) -> Numbered<u32>
     requires { Room k arena.old × (k.floats < 2 * k.records) }
     ensures { NumbersFloat (entry_of_float f) k arena.old result arena.new }
 {
@@ -149,8 +142,8 @@ pub fn float_id(arena: &mut [u8], k: Counters, f: FloatBits) -> PoolNumber
     let b = float_bucket(k.records, w);
     let last = float_head(arena, k, b);
     match walk_float(arena, FLOATS * k.records, FLOAT_LINKS * k.records, last, w) {
-        Some(i) => PoolNumber {
-            number: i as u32,
+        Some(i) => Numbered {
+            value: i as u32,
             counters: k,
         },
         None => add_float(arena, k, w, b, last),
