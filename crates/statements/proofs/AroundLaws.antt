@@ -41,7 +41,7 @@ use Rattle.laws.proofs.FixLaws.{pick_yes, pick_no}
 use Rattle.scope.specs.Open.{scope_at}
 use Rattle.keys.specs.Keys.{all_keys}
 use Rattle.expressions.specs.Slots.{common_in}
-use Rattle.expressions.specs.Answers.{Answer, type_result, common_result, callee_of, IsTyped, IsCommon, IsCallee, SidesMeet}
+use Rattle.expressions.specs.Answers.{OrRefused, type_result, common_result, callee_of, IsTyped, IsCommon, IsCallee, SidesMeet}
 use Rattle.expressions.proofs.TypingLaws.{left-expr, right-expr}
 use Rattle.statements.specs.Lent.{Converter, Converted, Fitted}
 use Rattle.statements.specs.Stack.{operand_at, stack_at}
@@ -147,32 +147,32 @@ module _ {tree text : List ℕ} (good : Good tree text) {e : ℕ} (x : IsKind tr
   pub right_side : {b : ℕ} → b ≡ word_of tree e B → (b < e) × IsExpr tree b
   right_side {b} q = right-expr tree text good e 10 binary-expr (sym x.kind) refl b q
 
-is-common : {tree : List ℕ} {a : Answer (Std.Option ℕ)} {y : ℕ} → IsCommon tree a → a ≡ Ok (Some y) → TypeAt tree y
-is-common {tree = tree} {y = y} t q = go (subst (λ (z : Answer (Std.Option ℕ)). IsCommon tree z) q t)
+is-common : {tree : List ℕ} {a : OrRefused (Std.Option ℕ)} {y : ℕ} → IsCommon tree a → a ≡ Ok (Some y) → TypeAt tree y
+is-common {tree = tree} {y = y} t q = go (subst (λ (z : OrRefused (Std.Option ℕ)). IsCommon tree z) q t)
   where
     go : IsCommon tree (Ok (Some y)) → TypeAt tree y
     go (IsCommon.is h) = h
 
-module _ {tree text s s' : List ℕ} (c : Converter) (e y : ℕ) {t : Answer (Std.Option ℕ)} (m : SidesMeet tree text s c.scope c.turn e t s') where
-  meets_as : (u : Answer ℕ) → operand_type (common_result t) y ≡ type_result u
+module _ {tree text s s' : List ℕ} (c : Converter) (e y : ℕ) {t : OrRefused (Std.Option ℕ)} (m : SidesMeet tree text s c.scope c.turn e t s') where
+  meets_as : (u : OrRefused ℕ) → operand_type (common_result t) y ≡ type_result u
       → operand_type (common_in tree text (scope_at tree text s c.scope) e) y ≡ type_result u
   meets_as u q = ap (λ (z : Result (Option ℕ)). operand_type z y) m.meets ∙ q
 
   pub common-refused : (x : ConvertError) → t ≡ Err x → OperandTyped tree text s c e y (Err x) s'
   unfolding operand_type common_result type_result
-  common-refused x q = record { frame = m.frame; typed = IsTyped.no; meets = meets_as (Err x) (ap (λ (z : Answer (Std.Option ℕ)). operand_type (common_result z) y) q) }
+  common-refused x q = record { frame = m.frame; typed = IsTyped.no; meets = meets_as (Err x) (ap (λ (z : OrRefused (Std.Option ℕ)). operand_type (common_result z) y) q) }
 
   common-is : (z : ℕ) → t ≡ Ok (Some z) → OperandTyped tree text s c e y (Ok z) s'
   unfolding operand_type common_result type_result
   common-is z q = record {
     frame = m.frame;
     typed = IsTyped.is (is-common m.common q);
-    meets = meets_as (Ok z) (ap (λ (z : Answer (Std.Option ℕ)). operand_type (common_result z) y) q);
+    meets = meets_as (Ok z) (ap (λ (z : OrRefused (Std.Option ℕ)). operand_type (common_result z) y) q);
   }
 
   common-neither : t ≡ Ok None → TypeAt tree y → OperandTyped tree text s c e y (Ok y) s'
   unfolding operand_type common_result type_result
-  common-neither q h = record { frame = m.frame; typed = IsTyped.is h; meets = meets_as (Ok y) (ap (λ (z : Answer (Std.Option ℕ)). operand_type (common_result z) y) q) }
+  common-neither q h = record { frame = m.frame; typed = IsTyped.is h; meets = meets_as (Ok y) (ap (λ (z : OrRefused (Std.Option ℕ)). operand_type (common_result z) y) q) }
 
   -- in any case
   pub common-either : (o : Std.Option ℕ) → t ≡ Ok o → TypeAt tree y → OperandTyped tree text s c e y (Ok (Std.unwrap_or o y)) s'
@@ -180,23 +180,23 @@ module _ {tree text s s' : List ℕ} (c : Converter) (e y : ℕ) {t : Answer (St
   common-either None q h = common-neither q h
 
 -- both sides are typed
-module _ {tree text s s' : List ℕ} (c : Converter) (e : ℕ) {t : Answer (Std.Option ℕ)} (m : SidesMeet tree text s c.scope c.turn e t s') where
-  sides_types_lem : (o : Option ℕ) → common_result t ≡ ok o → (u : Answer ℕ) → CommonTyped c e tree text s u s'
+module _ {tree text s s' : List ℕ} (c : Converter) (e : ℕ) {t : OrRefused (Std.Option ℕ)} (m : SidesMeet tree text s c.scope c.turn e t s') where
+  sides_types_lem : (o : Option ℕ) → common_result t ≡ ok o → (u : OrRefused ℕ) → CommonTyped c e tree text s u s'
   sides_types_lem o q u z h = m.adds o q
 
-  is-types : (z : ℕ) → t ≡ Ok (Some z) → (u : Answer ℕ) → CommonTyped c e tree text s u s'
+  is-types : (z : ℕ) → t ≡ Ok (Some z) → (u : OrRefused ℕ) → CommonTyped c e tree text s u s'
   unfolding common_result
   is-types z q u = sides_types_lem (some z) (ap common_result q) u
 
-  neither-types : t ≡ Ok None → (u : Answer ℕ) → CommonTyped c e tree text s u s'
+  neither-types : t ≡ Ok None → (u : OrRefused ℕ) → CommonTyped c e tree text s u s'
   unfolding common_result
   neither-types q u = sides_types_lem none (ap common_result q) u
 
-  pub either-types : (o : Std.Option ℕ) → t ≡ Ok o → (u : Answer ℕ) → CommonTyped c e tree text s u s'
+  pub either-types : (o : Std.Option ℕ) → t ≡ Ok o → (u : OrRefused ℕ) → CommonTyped c e tree text s u s'
   either-types (Some z) q u = is-types z q u
   either-types None q u = neither-types q u
 
-pub refused-common : {X : Type 0} {x : ConvertError} (y : ℕ) → ◌≡◌ {A = Answer ℕ} (Err x) (Ok y) → X
+pub refused-common : {X : Type 0} {x : ConvertError} (y : ℕ) → ◌≡◌ {A = OrRefused ℕ} (Err x) (Ok y) → X
 refused-common y h = let z : ◌≡◌ {A = ℕ} 0 1 = cc in absurd (omega arith)
 
 -- ---- calls
@@ -241,7 +241,7 @@ call-adds {tree = tree} {text = text} {l₁ = l₁} {l₂ = l₂} F e {f = f} {d
     (adds_seq (pure (OVar (var_of dest))) (adds_seq (emit (Call (some (var_of dest)) (function_of tree text f).rec_of)) p i) (adds-pure (OVar (var_of dest)) k₂ l₂ q.next.room))) (omega arith))) t stays names
 
 -- the call behind its values, by what it runs
-module _ (tree text : List ℕ) {callee : Answer Code-Callee.Callee} {to : Callee} (m : callee_of tree text callee ≡ ok to) where
+module _ (tree text : List ℕ) {callee : OrRefused Code-Callee.Callee} {to : Callee} (m : callee_of tree text callee ≡ ok to) where
   pub callee-cast : {y : ℕ} → callee ≡ Ok (Code-Callee.Callee.Cast y) → CallCast y ≡ to
   unfolding callee_of
   callee-cast {y} q = let e : ok (CallCast y) ≡ ok to = sym (ap (callee_of tree text) q) ∙ m in cc
@@ -250,8 +250,8 @@ module _ (tree text : List ℕ) {callee : Answer Code-Callee.Callee} {to : Calle
   unfolding callee_of
   callee-function {f} q = let e : ok (CallFunction (function_of tree text f)) ≡ ok to = sym (ap (callee_of tree text) q) ∙ m in cc
 
-pub function-callee : {tree : List ℕ} {callee : Answer Code-Callee.Callee} {f : ℕ} → IsCallee tree callee → callee ≡ Ok (Code-Callee.Callee.Function f) → FunctionAt tree f
-function-callee {tree = tree} {f = f} t q = go (subst (λ (z : Answer Code-Callee.Callee). IsCallee tree z) q t)
+pub function-callee : {tree : List ℕ} {callee : OrRefused Code-Callee.Callee} {f : ℕ} → IsCallee tree callee → callee ≡ Ok (Code-Callee.Callee.Function f) → FunctionAt tree f
+function-callee {tree = tree} {f = f} t q = go (subst (λ (z : OrRefused Code-Callee.Callee). IsCallee tree z) q t)
   where
     go : IsCallee tree (Ok (Code-Callee.Callee.Function f)) → FunctionAt tree f
     go (IsCallee.a_function h) = h
