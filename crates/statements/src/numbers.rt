@@ -1,7 +1,7 @@
 // Document 01's numbers for labels, and its tags as words of the stack.
 use ir::structs::Tag;
 
-// Kinds of labels.
+// Kinds of labels, with their numbers.
 #[derive(Clone, Copy, Debug, PartialEq, Eq)]
 pub(crate) enum LabelKind {
     LoopStart = 1,
