@@ -54,6 +54,9 @@ pub fn counters_of(k: &[usize]) -> Counters
     }
 }
 
+// The four that number differ in the step and in the word that they store: one function for them would take the step as a closure, and each clause would have to
+// speak of what that closure ensures.
+
 // A new variable of this type.
 pub fn new_var(arena: &mut [u8], k: &mut [usize], ty: u32) -> VarId
     requires { Room (counted k.old) arena.old × ((counted k.old).variables < 3 * (counted k.old).records) }

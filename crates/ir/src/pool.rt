@@ -16,7 +16,7 @@ use crate::floats::{FloatBits, entry_bits};
 use crate::search::walk_float;
 use crate::structs::{Counters, Numbered};
 use records::words::{
-    Four, SECOND_WORD, THIRD_WORD, high, index, load, low, mark, put_four, put_pair, put_word,
+    Four, SECOND_WORD, THIRD_WORD, high, index, load, low, put_four, put_pair, put_word,
 };
 
 // Whether there is a string i, and its text has the number o.
@@ -138,7 +138,7 @@ pub fn float_id(arena: &mut [u8], k: Counters, f: FloatBits) -> Numbered<u32>
     ensures { NumbersFloat (entry_of_float f) k arena.old result arena.new }
 {
     let e = entry_bits(f);
-    let w = Four(low(e.bits), high(e.bits), mark(e.short), 0);
+    let w = Four(low(e.bits), high(e.bits), u32::from(e.short), 0);
     let b = float_bucket(k.records, w);
     let last = float_head(arena, k, b);
     match walk_float(arena, FLOATS * k.records, FLOAT_LINKS * k.records, last, w) {

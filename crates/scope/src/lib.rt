@@ -12,7 +12,7 @@ ghost use Rattle.scope.specs.Open.{open_name_at, words_are, open_at, NamesRoom, 
 use ir::structs::VarId;
 use records::layout::{NAME_SLOT_BYTES, NAME_SLOTS, OPEN_NAME_BYTES, OPEN_NAMES};
 use records::words::{
-    FOURTH_WORD, Four, NONE, SECOND_WORD, THIRD_WORD, index, load, mark, put_four, put_word,
+    FOURTH_WORD, Four, NONE, SECOND_WORD, THIRD_WORD, index, load, put_four, put_word,
 };
 
 // For a tree of so many records: how many names are open, the record of the innermost loop (or NONE), and the function's record.
@@ -121,7 +121,7 @@ impl Scope {
         if open_at(scratch, n, count, o, offset, len).is_some() {
             return None;
         }
-        let w = Four(offset, len, v.0, 2 * ty + mark(constant));
+        let w = Four(offset, len, v.0, 2 * ty + u32::from(constant));
         put_four(scratch, OPEN_NAMES * n + OPEN_NAME_BYTES * count, w);
         put_word(scratch, NAME_SLOTS * n + NAME_SLOT_BYTES * o, count as u32);
         Some(Scope {

@@ -31,8 +31,8 @@ use Rattle.ir.specs.declared.structs.Counters.{Counters}
 use Rattle.ir.specs.declared.structs.VarId.{VarId}
 use Rattle.ir.specs.declared.structs.Operand.{Operand}
 use Rattle.ir.specs.declared.structs.Operand.TheVariants.{Var as var}
-use Rattle.ir.specs.declared.structs.NewVariable.{NewVariable}
-use Rattle.ir.specs.declared.structs.LabelNumber.{LabelNumber}
+use Rattle.ir.specs.declared.structs.Label.{Label}
+use Rattle.ir.specs.declared.structs.Numbered.{Numbered}
 use Rattle.ir.specs.Amounts.{amount}
 use Rattle.ir.specs.Instructions.{operand_of, var_of}
 use Rattle.ir.specs.Steps.{StopsIn, Emits, AddsVar, named, NumbersLabel}
@@ -59,27 +59,27 @@ use Rattle.statements.proofs.ConvertLaws.{converts-gave, converts-refused, conve
 pub variable_type_lem : {tree : List ℕ} {v y : ℕ} → v ≡ y → TypeAt tree y → TypeAt tree v
 variable_type_lem {tree = tree} e t = subst (λ (x : ℕ). TypeAt tree x) (sym e) t
 
-pub unary-adds : {tree : List ℕ} {op : UnaryOp} {y : ℕ} {src : Ir.Operand} {r : NewVariable} {k k₂ : Counters} {l l₁ l₂ : List ℕ}
-    → length l₁ ≡ length l → AddsVar y k l r l₁ → length l₂ ≡ length l₁ → Emits (Unary (var_of r.var) op src) r.counters l₁ k₂ l₂ → TypeAt tree r.var.1
-    → FitAdds tree (finish_unary op y src) (amount 1 1 0 0 0) k l (record { operand = var r.var; counters = k₂ }) l₂
+pub unary-adds : {tree : List ℕ} {op : UnaryOp} {y : ℕ} {src : Ir.Operand} {r : Numbered VarId} {k k₂ : Counters} {l l₁ l₂ : List ℕ}
+    → length l₁ ≡ length l → AddsVar y k l r l₁ → length l₂ ≡ length l₁ → Emits (Unary (var_of r.value) op src) r.counters l₁ k₂ l₂ → TypeAt tree r.value.1
+    → FitAdds tree (finish_unary op y src) (amount 1 1 0 0 0) k l (record { operand = var r.value; counters = k₂ }) l₂
 unfolding finish_unary OperandIn
 unary-adds {op = op} {src = src} {r = r} {k₂ = k₂} {l₂ = l₂} h p h' q t = record {
   adds = adds-most (adds_then (λ (dest : Ir.VarId). emit (Unary dest op src) >> pure (OVar dest)) (var_adds h p)
-      (adds_seq (pure (OVar (var_of r.var))) (emit-adds h' q) (adds-pure (OVar (var_of r.var)) k₂ l₂ q.next.room))) (omega arith);
+      (adds_seq (pure (OVar (var_of r.value))) (emit-adds h' q) (adds-pure (OVar (var_of r.value)) k₂ l₂ q.next.room))) (omega arith);
   operand = t;
 }
 
 -- ---- And and Or
 
-pub begin_adds : {e y : ℕ} {r : NewVariable} {a b : LabelNumber} {k : Counters} {l l₁ l₂ l₃ : List ℕ}
+pub begin_adds : {e y : ℕ} {r : Numbered VarId} {a b : Numbered Label} {k : Counters} {l l₁ l₂ l₃ : List ℕ}
     → length l₁ ≡ length l → AddsVar y k l r l₁ → length l₂ ≡ length l₁ → NumbersLabel 6 e r.counters l₁ a l₂
     → length l₃ ≡ length l₂ → NumbersLabel 7 e a.counters l₂ b l₃
-    → Adds (begin_logic e y) (amount 0 1 2 0 0) k l (var_of r.var) b.counters l₃
+    → Adds (begin_logic e y) (amount 0 1 2 0 0) k l (var_of r.value) b.counters l₃
 unfolding begin_logic
 begin_adds {e = e} {r = r} {b = b} {l₃ = l₃} h p h₁ q h₂ q₂ =
     adds-most (adds_then (λ (dest : Ir.VarId). label_id (logic_rhs e) >>= (λ (i : ℕ). label_id (logic_end e) >>= (λ (j : ℕ). pure dest))) (var_adds h p)
-    (adds_then (λ (i : ℕ). label_id (logic_end e) >>= (λ (j : ℕ). pure (var_of r.var))) (label_adds h₁ q)
-    (adds_then (λ (j : ℕ). pure (var_of r.var)) (label_adds h₂ q₂) (adds-pure (var_of r.var) b.counters l₃ q₂.next.room)))) (omega arith)
+    (adds_then (λ (i : ℕ). label_id (logic_end e) >>= (λ (j : ℕ). pure (var_of r.value))) (label_adds h₁ q)
+    (adds_then (λ (j : ℕ). pure (var_of r.value)) (label_adds h₂ q₂) (adds-pure (var_of r.value) b.counters l₃ q₂.next.room)))) (omega arith)
 
 module _ (e : ℕ) {dest : VarId} {o : Ir.Operand} {k k₁ k₂ : Counters} {l l₁ l₂ : List ℕ} (h : length l₁ ≡ length l) (p : Emits (Ir.Copy (var_of dest) o) k l k₁ l₁) where
   pub and-adds : Adds (jump_if_not (OVar (var_of dest)) (named 7 e)) (amount 1 0 1 0 0) k₁ l₁ tt k₂ l₂
@@ -119,19 +119,19 @@ module _ (tree : List ℕ) (e : ℕ) {d : ℕ} (dest : VarId) (o : Operand) {k k
 
 -- ---- any other binary
 
-pub binary-adds : {tree : List ℕ} (P : Program) {op : BinaryOp} {y : ℕ} (q : ℕ) (left right : Operand) {a b : Fitted} {r : NewVariable} {k k₄ : Counters} {l l₁ l₂ l₃ l₄ : List ℕ}
+pub binary-adds : {tree : List ℕ} (P : Program) {op : BinaryOp} {y : ℕ} (q : ℕ) (left right : Operand) {a b : Fitted} {r : Numbered VarId} {k k₄ : Counters} {l l₁ l₂ l₃ l₄ : List ℕ}
     → FitAdds tree (fit_operand P (operand_of left) q) (amount 1 1 0 0 1) k l a l₁
     → FitAdds tree (fit_operand P (operand_of right) q) (amount 1 1 0 0 1) a.counters l₁ b l₂
     → length l₃ ≡ length l₂ → AddsVar y b.counters l₂ r l₃
-    → length l₄ ≡ length l₃ → Emits (Binary (var_of r.var) op (operand_of a.operand) (operand_of b.operand)) r.counters l₃ k₄ l₄ → TypeAt tree r.var.1
-    → FitAdds tree (finish_binary P op y q (operand_of left) (operand_of right)) (amount 3 3 0 0 2) k l (record { operand = var r.var; counters = k₄ }) l₄
+    → length l₄ ≡ length l₃ → Emits (Binary (var_of r.value) op (operand_of a.operand) (operand_of b.operand)) r.counters l₃ k₄ l₄ → TypeAt tree r.value.1
+    → FitAdds tree (finish_binary P op y q (operand_of left) (operand_of right)) (amount 3 3 0 0 2) k l (record { operand = var r.value; counters = k₄ }) l₄
 unfolding finish_binary OperandIn
 binary-adds P {op = op} {y = y} q left right {a = a} {b = b} {r = r} {k₄ = k₄} {l₄ = l₄} u v h p h' i t = record {
   adds = adds-most (adds_then (λ (a1 : Ir.Operand). fit_operand P (operand_of right) q >>= (λ (b1 : Ir.Operand). Ir.new_var y >>= (λ (dest : Ir.VarId).
       emit (Binary dest op a1 b1) >> pure (OVar dest)))) u.adds
       (adds_then (λ (b1 : Ir.Operand). Ir.new_var y >>= (λ (dest : Ir.VarId). emit (Binary dest op (operand_of a.operand) b1) >> pure (OVar dest))) v.adds
       (adds_then (λ (dest : Ir.VarId). emit (Binary dest op (operand_of a.operand) (operand_of b.operand)) >> pure (OVar dest)) (var_adds h p)
-      (adds_seq (pure (OVar (var_of r.var))) (emit-adds h' i) (adds-pure (OVar (var_of r.var)) k₄ l₄ i.next.room))))) (omega arith);
+      (adds_seq (pure (OVar (var_of r.value))) (emit-adds h' i) (adds-pure (OVar (var_of r.value)) k₄ l₄ i.next.room))))) (omega arith);
   operand = t;
 }
 
@@ -256,20 +256,20 @@ function-callee {tree = tree} {f = f} t q = go (subst (λ (z : OrRefused Code-Ca
     go : IsCallee tree (Ok (Code-Callee.Callee.Function f)) → FunctionAt tree f
     go (IsCallee.a_function h) = h
 
-module _ {tree text l l₁ l₂ s s' : List ℕ} {c : Converter} (e : ℕ) {y count : ℕ} {r : NewVariable} (given : Args) (operands : List Ir.Operand) {to : Callee} {a : Converted}
+module _ {tree text l l₁ l₂ s s' : List ℕ} {c : Converter} (e : ℕ) {y count : ℕ} {r : Numbered VarId} (given : Args) (operands : List Ir.Operand) {to : Callee} {a : Converted}
     (h : length l₁ ≡ length l) (p : AddsVar y c.counters l r l₁) where
   pub finish-function : (f : ℕ) → CallFunction (function_of tree text f) ≡ to
-      → Converts tree text (call_value (program tree text) (all_keys tree text) e (var_of r.var) given operands (CallFunction (function_of tree text f))) (amount (2 * count + 1) count 0 0 count) (with_counters c r.counters) l₁ s a l₂ s'
+      → Converts tree text (call_value (program tree text) (all_keys tree text) e (var_of r.value) given operands (CallFunction (function_of tree text f))) (amount (2 * count + 1) count 0 0 count) (with_counters c r.counters) l₁ s a l₂ s'
       → Converts tree text (finish_call (program tree text) (all_keys tree text) e y given operands to) (amount (2 * count + 1) (count + 1) 0 0 count) c l s a l₂ s'
   unfolding finish_call
   finish-function f q i =
       converts-most (omega arith) (converts-after (λ (dest : Ir.VarId). call_value (program tree text) (all_keys tree text) e dest given operands to) (var_adds h p)
-      (converts-same (ap (call_value (program tree text) (all_keys tree text) e (var_of r.var) given operands) q) i))
+      (converts-same (ap (call_value (program tree text) (all_keys tree text) e (var_of r.value) given operands) q) i))
 
   pub finish-cast : {z : ℕ} → CallCast z ≡ to
-      → Converts tree text (cast_first e (var_of r.var) operands) (amount 1 0 0 0 0) (with_counters c r.counters) l₁ s a l₂ s'
+      → Converts tree text (cast_first e (var_of r.value) operands) (amount 1 0 0 0 0) (with_counters c r.counters) l₁ s a l₂ s'
       → Converts tree text (finish_call (program tree text) (all_keys tree text) e y given operands to) (amount (2 * count + 1) (count + 1) 0 0 count) c l s a l₂ s'
   unfolding finish_call call_value
   finish-cast q i =
       converts-most (omega arith) (converts-after (λ (dest : Ir.VarId). call_value (program tree text) (all_keys tree text) e dest given operands to) (var_adds h p)
-      (converts-same (ap (call_value (program tree text) (all_keys tree text) e (var_of r.var) given operands) q) i))
+      (converts-same (ap (call_value (program tree text) (all_keys tree text) e (var_of r.value) given operands) q) i))

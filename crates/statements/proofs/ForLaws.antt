@@ -33,7 +33,7 @@ use Rattle.conversion.proofs.MonadLaws.{seq_is, pure-first}
 use Rattle.types.specs.Fits.{IsType}
 use Rattle.types.proofs.FromGood.{is-type}
 use Rattle.ir.specs.declared.structs.Counters.{Counters}
-use Rattle.ir.specs.declared.structs.NewVariable.{NewVariable}
+use Rattle.ir.specs.declared.structs.Numbered.{Numbered}
 use Rattle.ir.specs.declared.structs.VarId.{VarId}
 use Rattle.ir.specs.Amounts.{Amount, amount, both}
 use Rattle.ir.specs.Instructions.{var_of}
@@ -281,11 +281,11 @@ module _ {tree text l s : List ℕ} {c : Converter} {r v : ℕ} (p : Converting 
   few : c.scope.names < records tree
   few = omega (arith, for_records p.ready.keyed.good is, afforded.names)
 
-  module _ {y : ℕ} {made : NewVariable} {l₁ : List ℕ} (ey : y ≡ word_of tree v C) (long : length l₁ ≡ length l) (new : AddsVar y c.counters l made l₁) where
+  module _ {y : ℕ} {made : Numbered VarId} {l₁ : List ℕ} (ey : y ≡ word_of tree v C) (long : length l₁ ≡ length l) (new : AddsVar y c.counters l made l₁) where
     typed : TypeAt tree y
     typed = subst (λ (z : ℕ). TypeAt tree z) (sym ey) t
 
-    pub declare_asks : Asked tree text s c.scope v × NameAfforded c.scope made.var
+    pub declare_asks : Asked tree text s c.scope v × NameAfforded c.scope made.value
     declare_asks = (asked, var_afforded p long new few typed)
 
     abbrev declared : Ir.VarId → Def.Scope → M (Ir.VarId × Def.Scope)
@@ -298,26 +298,26 @@ module _ {tree text l s : List ℕ} {c : Converter} {r v : ℕ} (p : Converting 
         ∙ rw (pick_no (eqb (word_of tree v C) none) nothing (some (word_of tree v C)) (ne_eqb (word_of tree v C) none (λ e. omega (arith, t.below, p.ready.keyed.good.few))))
         (ap (λ (z : ℕ). declared_then tree text v false r z (scope_in tree text s c) declared) (sym ey)))
 
-    module _ (s' : List ℕ) {d : Std.Option Scope} (m : DeclareMeets text (original_of tree s v) (original_word tree s v A) (original_word tree s v B) made.var false c.scope s s' d) where
+    module _ (s' : List ℕ) {d : Std.Option Scope} (m : DeclareMeets text (original_of tree s v) (original_word tree s v A) (original_word tree s v B) made.value false c.scope s s' d) where
       pub for_taken : {e : ConvertError} → d ≡ None → e ≡ record { kind = AlreadyDeclared; place = r }
           → FindsVariable tree text (for_variable_steps tree text s c r) c l s (ForVariable.Refused e) l₁ s'
       for_taken q w = record {
         meets = meets-same (texts_of tree text) declared_steps (variable-not p long new few typed v asked false s' m r declared q w);
         variable = λ x sc k e. let z : ◌≡◌ {A = ℕ} 0 1 = cc in absurd (omega arith);
-        stays = taken-stays p made.var few (var_typed p long new few typed) v asked false s' m q;
+        stays = taken-stays p made.value few (var_typed p long new few typed) v asked false s' m q;
       }
 
       pub for_done : {sc : Scope} → d ≡ Some sc
-          → FindsVariable tree text (for_variable_steps tree text s c r) c l s (ForVariable.Is made.var sc made.counters) l₁ s'
+          → FindsVariable tree text (for_variable_steps tree text s c r) c l s (ForVariable.Is made.value sc made.counters) l₁ s'
       for_done {sc} q = variable-gave long
           ((meets-same (texts_of tree text) declared_steps (variable_then p long new few typed v asked false s' m r declared q
-          (meets-gave (texts_of tree text) refl (adds_in (texts_of tree text) (adds-pure (var_of made.var, scope_at tree text s' sc) made.counters l₁ new.next.room))))
-          ).gives (var_of made.var, scope_at tree text s' sc) made.counters refl)
-          (var_typed p long new few typed) (declared_leaves p made.var few (var_typed p long new few typed) v asked false s' m q)
-          (declared_stays p made.var few (var_typed p long new few typed) v asked false s' m q)
+          (meets-gave (texts_of tree text) refl (adds_in (texts_of tree text) (adds-pure (var_of made.value, scope_at tree text s' sc) made.counters l₁ new.next.room))))
+          ).gives (var_of made.value, scope_at tree text s' sc) made.counters refl)
+          (var_typed p long new few typed) (declared_leaves p made.value few (var_typed p long new few typed) v asked false s' m q)
+          (declared_stays p made.value few (var_typed p long new few typed) v asked false s' m q)
 
-      pub declared_none : {sc : Scope} → d ≡ Some sc → InTurn tree text s c → VariableTyped c tree text s (ForVariable.Is made.var sc made.counters) s'
-      declared_none q u x sc k e = declared_types p made.var few (var_typed p long new few typed) v asked false s' m q u
+      pub declared_none : {sc : Scope} → d ≡ Some sc → InTurn tree text s c → VariableTyped c tree text s (ForVariable.Is made.value sc made.counters) s'
+      declared_none q u x sc k e = declared_types p made.value few (var_typed p long new few typed) v asked false s' m q u
 
 -- ---- the turns: x is the variable
 

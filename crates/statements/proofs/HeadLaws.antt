@@ -29,7 +29,7 @@ use Rattle.types.proofs.FromGood.{is_expr_lem}
 use Rattle.ir.specs.declared.structs.Counters.{Counters}
 use Rattle.ir.specs.declared.structs.VarId.{VarId}
 use Rattle.ir.specs.declared.structs.Operand.{Operand}
-use Rattle.ir.specs.declared.structs.NewVariable.{NewVariable}
+use Rattle.ir.specs.declared.structs.Numbered.{Numbered}
 use Rattle.ir.specs.Amounts.{Amount, amount, both}
 use Rattle.ir.specs.Instructions.{operand_of, var_of}
 use Rattle.ir.specs.Steps.{Emits, AddsVar, named}
@@ -87,18 +87,18 @@ count-adds r {x = x} {s = s} {u = u} es eu a b h p d =
     (adds_seq (place_label (loop_check r)) (one_more x es eu h p) d))) (omega arith)
 
 -- the second bound fitted, whether the variable is below it, and the jump
-pub test-adds : {tree : List ℕ} (P : Program) (r : ℕ) {x : VarId} (b : Operand) {a : Fitted} {v : NewVariable} {k k₃ k₄ : Counters} {l l₁ l₂ l₃ l₄ : List ℕ}
+pub test-adds : {tree : List ℕ} (P : Program) (r : ℕ) {x : VarId} (b : Operand) {a : Fitted} {v : Numbered VarId} {k k₃ k₄ : Counters} {l l₁ l₂ l₃ l₄ : List ℕ}
     → FitAdds tree (fit_operand P (operand_of b) x.1) (amount 1 1 0 0 1) k l a l₁
     → length l₂ ≡ length l₁ → AddsVar 6 a.counters l₁ v l₂
-    → length l₃ ≡ length l₂ → Emits (Binary (var_of v.var) Lt (OVar (var_of x)) (operand_of a.operand)) v.counters l₂ k₃ l₃
-    → Adds (jump_if_not (OVar (var_of v.var)) (named 2 r)) (amount 1 0 1 0 0) k₃ l₃ tt k₄ l₄
+    → length l₃ ≡ length l₂ → Emits (Binary (var_of v.value) Lt (OVar (var_of x)) (operand_of a.operand)) v.counters l₂ k₃ l₃
+    → Adds (jump_if_not (OVar (var_of v.value)) (named 2 r)) (amount 1 0 1 0 0) k₃ l₃ tt k₄ l₄
     → Adds (test_bound P r (var_of x) (operand_of b)) (amount 3 2 1 0 1) k l tt k₄ l₄
 unfolding test_bound
 test-adds P r {x = x} b {a = a} {v = v} u h p h' i j =
     adds-most (adds_then (λ (b1 : Ir.Operand). Ir.new_var bool_type >>= (λ (cond : Ir.VarId).
     emit (Binary cond Lt (OVar (var_of x)) b1) >> jump_if_not (OVar cond) (loop_end r))) u.adds
     (adds_then (λ (cond : Ir.VarId). emit (Binary cond Lt (OVar (var_of x)) (operand_of a.operand)) >> jump_if_not (OVar cond) (loop_end r)) (var_adds h p)
-    (adds_seq (jump_if_not (OVar (var_of v.var)) (loop_end r)) (emit-adds h' i) j))) (omega arith)
+    (adds_seq (jump_if_not (OVar (var_of v.value)) (loop_end r)) (emit-adds h' i) j))) (omega arith)
 
 -- ---- the condition of an If or a While, and a bound of a For
 

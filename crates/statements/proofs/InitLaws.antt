@@ -38,7 +38,7 @@ use Rattle.types.proofs.FromGood.{is_expr_lem}
 use Rattle.ir.specs.declared.structs.Counters.{Counters}
 use Rattle.ir.specs.declared.structs.VarId.{VarId}
 use Rattle.ir.specs.declared.structs.Operand.{Operand}
-use Rattle.ir.specs.declared.structs.NewVariable.{NewVariable}
+use Rattle.ir.specs.declared.structs.Numbered.{Numbered}
 use Rattle.ir.specs.Amounts.{Amount, amount}
 use Rattle.ir.specs.Instructions.{operand_of, var_of}
 use Rattle.ir.specs.Steps.{Emits, AddsVar}
@@ -243,30 +243,30 @@ module _ {tree text l s : List ℕ} {c : Converter} {r y : ℕ} (p : Converting 
   unfolding declare_init
   declare_steps_lem src ed = ap₂ (λ (b : Bool) (w : ℕ). declared_then tree text r b r w (scope_at tree text s c.scope) (copied src)) (mark_bit ed (init_detail tree text p.ready.keyed.good r x.below x.kind)) ez
 
-  module _ {made : NewVariable} {l₁ : List ℕ} (long : length l₁ ≡ length l) (new : AddsVar z c.counters l made l₁) where
-    pub new_requires : Asked tree text s c.scope r × NameAfforded c.scope made.var
+  module _ {made : Numbered VarId} {l₁ : List ℕ} (long : length l₁ ≡ length l) (new : AddsVar z c.counters l made l₁) where
+    pub new_requires : Asked tree text s c.scope r × NameAfforded c.scope made.value
     new_requires = (init_asked p.ready x, var_afforded p long new more-names new_type_lem)
 
     module _ (src : Operand) {d : ℕ} (ed : d ≡ detail_of tree r) {s' : List ℕ} {g : Std.Option Scope}
-        (m : DeclareMeets text (original_of tree s r) (original_word tree s r A) (original_word tree s r B) made.var (eqb d 1) c.scope s s' g) where
+        (m : DeclareMeets text (original_of tree s r) (original_word tree s r A) (original_word tree s r B) made.value (eqb d 1) c.scope s s' g) where
       pub new-taken : {e : ConvertError} → g ≡ None → e ≡ record { kind = AlreadyDeclared; place = r }
           → DeclaresAs (λ t u i k j. declare_init_steps t u i k j y src) c r tree text l s (Stated.Refused e) l₁ s'
       new-taken q w =
           states_stop (meets-same (texts_of tree text) (declare_steps_lem src ed) (variable-not p long new more-names new_type_lem r (init_asked p.ready x) (eqb d 1) s' m r (copied src) q w))
-          (taken-stays p made.var more-names (var_typed p long new more-names new_type_lem) r (init_asked p.ready x) (eqb d 1) s' m q)
+          (taken-stays p made.value more-names (var_typed p long new more-names new_type_lem) r (init_asked p.ready x) (eqb d 1) s' m q)
 
       pub new-types : {sc : Scope} → g ≡ Some sc → InTurn tree text s c → TypedIn tree text c s [] s'
-      new-types q i = declared_types p made.var more-names (var_typed p long new more-names new_type_lem) r (init_asked p.ready x) (eqb d 1) s' m q i
+      new-types q i = declared_types p made.value more-names (var_typed p long new more-names new_type_lem) r (init_asked p.ready x) (eqb d 1) s' m q i
 
-      pub new_declared : {sc : Scope} {k₂ : Counters} {l₂ : List ℕ} → g ≡ Some sc → length l₂ ≡ length l₁ → Emits (Copy (var_of made.var) (operand_of src)) made.counters l₁ k₂ l₂
+      pub new_declared : {sc : Scope} {k₂ : Counters} {l₂ : List ℕ} → g ≡ Some sc → length l₂ ≡ length l₁ → Emits (Copy (var_of made.value) (operand_of src)) made.counters l₁ k₂ l₂
           → DeclaresAs (λ t u i k j. declare_init_steps t u i k j y src) c r tree text l s (Stated.Done sc k₂) l₂ s'
       new_declared {sc} {k₂} {l₂} q h i =
-          let at : TypeAt tree made.var.1 = var_typed p long new more-names new_type_lem in
+          let at : TypeAt tree made.value.1 = var_typed p long new more-names new_type_lem in
           let S : Def.Scope = scope_at tree text s' sc in
           states_done (meets-same (texts_of tree text) (declare_steps_lem src ed) (meets-most (texts_of tree text) (variable_then p long new more-names new_type_lem r (init_asked p.ready x) (eqb d 1) s' m r (copied src) q
           (meets-gave (texts_of tree text) h (adds_in (texts_of tree text) (adds_seq (pure S) (emit-adds h i) (adds-pure S k₂ l₂ i.next.room))))) (omega arith)))
-          (declared_leaves p made.var more-names at r (init_asked p.ready x) (eqb d 1) s' m q)
-          (declared_stays p made.var more-names at r (init_asked p.ready x) (eqb d 1) s' m q)
+          (declared_leaves p made.value more-names at r (init_asked p.ready x) (eqb d 1) s' m q)
+          (declared_stays p made.value more-names at r (init_asked p.ready x) (eqb d 1) s' m q)
 
 -- ---- a new name, from its value on
 
