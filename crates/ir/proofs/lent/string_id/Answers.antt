@@ -14,7 +14,7 @@ pub string_id-found-requires : goal.string_id-found-requires
 string_id-found-requires c = let e = c.counters_of-c.ensures in (
   room-read e c.requires.0,
   subst (λ (x : Counters). x.strings < x.records) (sym e) c.requires.1,
-  subst (λ (x : Counters). c.args.o < x.records) (sym e) c.requires.2,
+  subst (λ (x : Counters). c.args.text.number < x.records) (sym e) c.requires.2,
 )
 
 pub bounds-k-5 : goal.bounds-k-5
