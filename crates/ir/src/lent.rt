@@ -8,7 +8,7 @@ ghost use Rattle.ir.specs.Floats.{entry_of_float};
 ghost use Rattle.ir.specs.Steps.{named, AddsVar, NumbersLabel, NumbersString, NumbersFloat, Closes, Next};
 
 use crate::floats::FloatBits;
-use crate::structs::{Counters, Label, VarId};
+use crate::structs::{Counters, Label, TextId, VarId};
 use crate::{pool, structs};
 
 // Which word is which: the records of the tree, the entries of each table, and how many there were before the function at hand began.
@@ -79,13 +79,13 @@ pub fn label_id(arena: &mut [u8], k: &mut [usize], kind: u32, opener: u32) -> La
     found.value
 }
 
-// The string at this place, whose text has the number o.
-pub fn string_id(arena: &mut [u8], k: &mut [usize], o: usize, offset: u32, len: u32) -> u32
-    requires { Room (counted k.old) arena.old × ((counted k.old).strings < (counted k.old).records) × (o < (counted k.old).records) }
-    ensures { NumbersString o offset len (counted k.old) arena.old (record { value = result; counters = counted k.new }) arena.new }
+// The string with this text.
+pub fn string_id(arena: &mut [u8], k: &mut [usize], text: TextId) -> u32
+    requires { Room (counted k.old) arena.old × ((counted k.old).strings < (counted k.old).records) × (text.number < (counted k.old).records) }
+    ensures { NumbersString text.number text.offset text.len (counted k.old) arena.old (record { value = result; counters = counted k.new }) arena.new }
 {
     let c = counters_of(k);
-    let found = pool::string_id(arena, c, o, offset, len);
+    let found = pool::string_id(arena, c, text);
     k[COUNT_STRINGS] = found.counters.strings;
     found.value
 }

@@ -14,7 +14,7 @@ use crate::arena::{
 };
 use crate::floats::{FloatBits, entry_bits};
 use crate::search::walk_float;
-use crate::structs::{Counters, Numbered};
+use crate::structs::{Counters, Numbered, TextId};
 use records::words::{
     Four, SECOND_WORD, THIRD_WORD, high, index, load, low, put_four, put_pair, put_word,
 };
@@ -30,20 +30,29 @@ fn has_number(arena: &[u8], k: Counters, i: usize, o: usize) -> bool
     index(load(arena, STRING_NUMBERS * k.records + SEARCH_BYTES * i)) == o
 }
 
-// A string more, at this place, whose text has the number o: its own number goes to the slot of that.
-fn add_string(arena: &mut [u8], k: Counters, o: usize, offset: u32, len: u32) -> Numbered<u32>
-    requires { Room k arena.old × (k.strings < k.records) × (o < k.records) }
-    ensures { (result.value ≡ k.strings) × StringAdded o offset len k arena.old result.counters arena.new }
+// A string more, with this text: its own number goes to the slot of the text's.
+fn add_string(arena: &mut [u8], k: Counters, text: TextId) -> Numbered<u32>
+    requires { Room k arena.old × (k.strings < k.records) × (text.number < k.records) }
+    ensures { (result.value ≡ k.strings) × StringAdded text.number text.offset text.len k arena.old result.counters arena.new }
 {
     let v = k.strings;
     let number = v as u32;
-    put_pair(arena, STRINGS * k.records + STRING_BYTES * v, offset, len);
+    put_pair(
+        arena,
+        STRINGS * k.records + STRING_BYTES * v,
+        text.offset,
+        text.len,
+    );
     put_word(
         arena,
         STRING_NUMBERS * k.records + SEARCH_BYTES * v,
-        o as u32,
+        text.number as u32,
     );
-    put_word(arena, STRING_SLOTS * k.records + SEARCH_BYTES * o, number);
+    put_word(
+        arena,
+        STRING_SLOTS * k.records + SEARCH_BYTES * text.number,
+        number,
+    );
     Numbered {
         value: number,
         counters: Counters {
@@ -53,20 +62,20 @@ fn add_string(arena: &mut [u8], k: Counters, o: usize, offset: u32, len: u32) ->
     }
 }
 
-// The string whose text has the number o, its entry the place of its first use. The slot of the number has the string, or what nobody wrote there: the number
+// The string with this text, its entry the place of its first use. The slot of the text's number has the string, or what nobody wrote there: the number
 // beside the string tells. So no text is read.
-pub fn string_id(arena: &mut [u8], k: Counters, o: usize, offset: u32, len: u32) -> Numbered<u32>
-    requires { Room k arena.old × (k.strings < k.records) × (o < k.records) }
-    ensures { NumbersString o offset len k arena.old result arena.new }
+pub fn string_id(arena: &mut [u8], k: Counters, text: TextId) -> Numbered<u32>
+    requires { Room k arena.old × (k.strings < k.records) × (text.number < k.records) }
+    ensures { NumbersString text.number text.offset text.len k arena.old result arena.new }
 {
-    let number = load(arena, STRING_SLOTS * k.records + SEARCH_BYTES * o);
-    if has_number(arena, k, index(number), o) {
+    let number = load(arena, STRING_SLOTS * k.records + SEARCH_BYTES * text.number);
+    if has_number(arena, k, index(number), text.number) {
         return Numbered {
             value: number,
             counters: k,
         };
     }
-    add_string(arena, k, o, offset, len)
+    add_string(arena, k, text)
 }
 
 // An entry's link, and its number at the head of its bucket.

@@ -63,6 +63,14 @@ pub struct Label(pub u32);
 #[derive(Clone, Copy)]
 pub struct VarId(pub u32, pub u32);
 
+// A text of the tree: its number, which is the lowest record with it, and where it stands, in the two words of a record with it.
+#[derive(Clone, Copy, Debug, PartialEq, Eq)]
+pub struct TextId {
+    pub number: usize,
+    pub offset: u32,
+    pub len: u32,
+}
+
 #[derive(Clone, Copy)]
 pub enum Operand {
     Var(VarId),
