@@ -32,7 +32,7 @@ use Rattle.conversion.specs.Functions.{Pool, always_returns, convert_body, finis
 use Rattle.conversion.proofs.MonadLaws.{regroup, seq_is, after_none, pure-first}
 use Rattle.ir.specs.declared.structs.Counters.{Counters}
 use Rattle.ir.specs.declared.structs.VarId.{VarId}
-use Rattle.ir.specs.declared.structs.Numbered.{Numbered}
+use Rattle.ir.specs.declared.structs.WithCounters.{WithCounters}
 use Rattle.ir.specs.Amounts.{amount, Spent}
 use Rattle.ir.specs.Arena.{NumberedTexts, TablesSoFar, Holds, Room}
 use Rattle.ir.specs.Steps.{grown, next_function, Stands, NextIn, StopsIn, AddsVar, Closes}
@@ -165,7 +165,7 @@ module _ {tree text : List ℕ} (good : Good tree text) {f : ℕ} {k₀ k : Coun
     pub var_room : Room k l × (k.variables < 3 * k.records)
     var_room = (v.room.room, omega (arith, so_many, v.room.affords.variables))
 
-    pub vars-next : {r y w : ℕ} {x : Numbered VarId} {l₁ : List ℕ} → r ≡ word_of tree cell A → y ≡ word_of tree r C → length l₁ ≡ length l → AddsVar y k l x l₁
+    pub vars-next : {r y w : ℕ} {x : WithCounters VarId} {l₁ : List ℕ} → r ≡ word_of tree cell A → y ≡ word_of tree r C → length l₁ ≡ length l → AddsVar y k l x l₁
         → w ≡ word_of tree cell B → VarsLeft tree text f k₀ l₀ x.counters l₁ w
     unfolding new_vars
     vars-next {r} {y} {w} {x} {l₁} er ey h p ew =

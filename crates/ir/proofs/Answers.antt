@@ -18,7 +18,7 @@ use Rattle.ir.specs.declared.structs.Counters.{Counters}
 use Rattle.ir.specs.declared.structs.Fields.{Fields}
 use Rattle.ir.specs.declared.structs.Label.{Label}
 use Rattle.ir.specs.declared.structs.VarId.{VarId}
-use Rattle.ir.specs.declared.structs.Numbered.{Numbered}
+use Rattle.ir.specs.declared.structs.WithCounters.{WithCounters}
 use Rattle.ir.specs.Instructions.{var_of, field_bytes}
 use Rattle.ir.specs.Amounts.{Amount, Spent}
 use Rattle.ir.specs.Arena.{NumberedTexts, TablesSoFar, HasSlot, label_slot, float_bucket, float_entry_bucket, Holds, Room}
@@ -55,7 +55,7 @@ emit-done i f k l l' room small ef e =
 abbrev variable : ℕ → ℕ → Ir.VarId
 variable i y = record { id = i; ty = y }
 
-pub var_done : (y : ℕ) (r : Numbered VarId) (k : Counters) (l l' : List ℕ) → Room k l → k.variables < 3 * k.records
+pub var_done : (y : ℕ) (r : WithCounters VarId) (k : Counters) (l l' : List ℕ) → Room k l → k.variables < 3 * k.records
     → r.value.0 ≡ k.variables - k.variables_before → r.value.1 ≡ y → r.counters ≡ more_variables k → l' ≡ splice l (128 * k.records + 4 * k.variables) (word y)
     → AddsVar y k l r l'
 unfolding Stands new_var encode_var word bytes_of
@@ -96,7 +96,7 @@ module _ (kind opener : ℕ) (k : Counters) (l : List ℕ) (room : Room k l) (at
   slot_has : i ≡ word_at l (label_slot k.records x)
   slot_has = ei ∙ ap (word_at l) ea
 
-  pub label_found : (b : Bool) (r : Numbered Label) → b ≡ label_is l k kind opener i → b ≡ true → r.value.0 ≡ i → r.counters ≡ k → NumbersLabel kind opener k l r l
+  pub label_found : (b : Bool) (r : WithCounters Label) → b ≡ label_is l k kind opener i → b ≡ true → r.value.0 ≡ i → r.counters ≡ k → NumbersLabel kind opener k l r l
   unfolding label_id
   label_found b r eb q e ek = record {
     next = subst (λ (k' : Counters). Next (label_id x) k l r.value.0 k' l) (sym ek) (record {
@@ -109,7 +109,7 @@ module _ (kind opener : ℕ) (k : Counters) (l : List ℕ) (room : Room k l) (at
     entry = inr (record { counts = ek; same = refl });
   }
 
-  pub label_new : (b : Bool) (l' : List ℕ) (r : Numbered Label) → k.labels < 3 * k.records → HasSlot k.records x
+  pub label_new : (b : Bool) (l' : List ℕ) (r : WithCounters Label) → k.labels < 3 * k.records → HasSlot k.records x
       → b ≡ label_is l k kind opener i → b ≡ false
       → (r.value.0 ≡ k.labels - k.labels_before)
       × WroteTwo l (label_slot k.records x) (word (k.labels - k.labels_before)) (140 * k.records + 8 * k.labels) (encode_label x) (more_labels k) r.counters l'
@@ -142,7 +142,7 @@ module _ (kind opener : ℕ) (k : Counters) (l : List ℕ) (room : Room k l) (at
 -- ---- strings, as the code meets them: whether the string at the slot of the number o has a text of that number
 
 module _ (o offset len i : ℕ) (k : Counters) (l : List ℕ) (room : Room k l) (inside : o < k.records) (ei : i ≡ word_at l (280 * k.records + 4 * o)) where
-  pub string_at : (b : Bool) (r : Numbered ℕ) → b ≡ string_is l k o i → b ≡ true → r.value ≡ i → r.counters ≡ k → NumbersString o offset len k l r l
+  pub string_at : (b : Bool) (r : WithCounters ℕ) → b ≡ string_is l k o i → b ≡ true → r.value ≡ i → r.counters ≡ k → NumbersString o offset len k l r l
   unfolding string_id
   string_at b r eb q e ek = record {
     next = λ texts apart own. subst (λ (k' : Counters). NextIn texts (string_id (entry_of_string texts.text offset len)) k l r.value k' l) (sym ek) (record {
@@ -157,7 +157,7 @@ module _ (o offset len i : ℕ) (k : Counters) (l : List ℕ) (room : Room k l) 
     entry = inr (record { counts = ek; same = refl });
   }
 
-  pub string_nowhere : (b : Bool) (l' : List ℕ) (r : Numbered ℕ) → k.strings < k.records → offset < 2 ^ 32 → len < 2 ^ 32 → b ≡ string_is l k o i → b ≡ false
+  pub string_nowhere : (b : Bool) (l' : List ℕ) (r : WithCounters ℕ) → k.strings < k.records → offset < 2 ^ 32 → len < 2 ^ 32 → b ≡ string_is l k o i → b ≡ false
       → (r.value ≡ k.strings) × StringAdded o offset len k l r.counters l' → NumbersString o offset len k l r l'
   unfolding string_id encode_string word bytes_of
   string_nowhere b l' r small ho hn eb q m =
@@ -209,7 +209,7 @@ module _ (f e : FloatEntry) (same : e ≡ f) (b c d p v : ℕ) (k : Counters) (l
       (subst (λ (u : ℕ). Walks (λ j. word_at l (268 * k.records + 4 * j)) (float_words_at l (204 * k.records) (e.bits % 4294967296) (e.bits / 4294967296) (bool_number e.short)) u a) float_head-is
       (rw (← eb, ← ec.0, ← ed) es))
 
-  pub float_at : (r : Numbered ℕ) (i : ℕ) → a ≡ Some i → r.value ≡ i → r.counters ≡ k → NumbersFloat f k l r l
+  pub float_at : (r : WithCounters ℕ) (i : ℕ) → a ≡ Some i → r.value ≡ i → r.counters ≡ k → NumbersFloat f k l r l
   unfolding float_id
   float_at r i q ex ek = subst (λ (g : FloatEntry). NumbersFloat g k l r l) same (record {
     next = subst (λ (k' : Counters). Next (float_id e) k l r.value k' l) (sym ek) (record {
@@ -222,7 +222,7 @@ module _ (f e : FloatEntry) (same : e ≡ f) (b c d p v : ℕ) (k : Counters) (l
     entry = inr (record { counts = ek; same = refl });
   })
 
-  pub float_nowhere : (l' : List ℕ) (r : Numbered ℕ) → k.floats < 2 * k.records → a ≡ None
+  pub float_nowhere : (l' : List ℕ) (r : WithCounters ℕ) → k.floats < 2 * k.records → a ≡ None
       → (r.value ≡ k.floats)
       × WroteThree l (204 * k.records + 16 * k.floats) (word b ++ word c ++ word d ++ word 0) (268 * k.records + 4 * k.floats) (word v)
       (276 * k.records + 4 * p) (word k.floats) (more_floats k) r.counters l'

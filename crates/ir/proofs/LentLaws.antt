@@ -15,7 +15,7 @@ use Rattle.conversion.specs.Ir as Ir
 use Rattle.ir.specs.declared.structs.Fields.{Fields}
 use Rattle.ir.specs.declared.structs.Label.{Label}
 use Rattle.ir.specs.declared.structs.VarId.{VarId}
-use Rattle.ir.specs.declared.structs.Numbered.{Numbered}
+use Rattle.ir.specs.declared.structs.WithCounters.{WithCounters}
 use Rattle.ir.specs.Instructions.{field_bytes}
 use Rattle.ir.specs.Arena.{Room}
 use Rattle.ir.specs.Counted.{labels_before_word, counter_words, counted}
@@ -120,7 +120,7 @@ emit-lent i f k l l' room small ef e =
 
 -- what is told of the counters c, which were read off the words
 module _ (k l l' : List ℕ) (room : Room (counted k) l) (c : Counters) (read : c ≡ counted k) where
-  pub var_lent : (y : ℕ) (r : Numbered VarId) → AddsVar y c l r l' → AddsVar y (counted k) l (record { value = r.value; counters = counted (set k 2 r.counters.variables) }) l'
+  pub var_lent : (y : ℕ) (r : WithCounters VarId) → AddsVar y c l r l' → AddsVar y (counted k) l (record { value = r.value; counters = counted (set k 2 r.counters.variables) }) l'
   var_lent y r h =
       let g : AddsVar y (counted k) l r l' = subst (λ (x : Counters). AddsVar y x l r l') read h in
       let same : with_variables (counted k) r.counters.variables ≡ r.counters = subst (λ (x : Counters). with_variables (counted k) x.variables ≡ x) (sym g.entry.counts) refl in
@@ -130,7 +130,7 @@ module _ (k l l' : List ℕ) (room : Room (counted k) l) (c : Counters) (read : 
   same-labels k' (inl w) = subst (λ (x : Counters). with_labels (counted k) x.labels ≡ x) (sym w.counts) refl
   same-labels k' (inr w) = subst (λ (x : Counters). with_labels (counted k) x.labels ≡ x) (sym w.counts) refl
 
-  pub label_lent : (kind opener : ℕ) (r : Numbered Label) → NumbersLabel kind opener c l r l'
+  pub label_lent : (kind opener : ℕ) (r : WithCounters Label) → NumbersLabel kind opener c l r l'
       → NumbersLabel kind opener (counted k) l (record { value = r.value; counters = counted (set k 3 r.counters.labels) }) l'
   label_lent kind opener r h =
       let g : NumbersLabel kind opener (counted k) l r l' = subst (λ (x : Counters). NumbersLabel kind opener x l r l') read h in
@@ -140,7 +140,7 @@ module _ (k l l' : List ℕ) (room : Room (counted k) l) (c : Counters) (read : 
   same-strings k' (inl w) = subst (λ (x : Counters). with_strings (counted k) x.strings ≡ x) (sym w.counts) refl
   same-strings k' (inr w) = subst (λ (x : Counters). with_strings (counted k) x.strings ≡ x) (sym w.counts) refl
 
-  pub string_lent : (o offset len : ℕ) (r : Numbered ℕ) → NumbersString o offset len c l r l'
+  pub string_lent : (o offset len : ℕ) (r : WithCounters ℕ) → NumbersString o offset len c l r l'
       → NumbersString o offset len (counted k) l (record { value = r.value; counters = counted (set k 5 r.counters.strings) }) l'
   string_lent o offset len r h =
       let g : NumbersString o offset len (counted k) l r l' = subst (λ (x : Counters). NumbersString o offset len x l r l') read h in
@@ -150,7 +150,7 @@ module _ (k l l' : List ℕ) (room : Room (counted k) l) (c : Counters) (read : 
   same-floats k' (inl w) = subst (λ (x : Counters). with_floats (counted k) x.floats ≡ x) (sym w.counts) refl
   same-floats k' (inr w) = subst (λ (x : Counters). with_floats (counted k) x.floats ≡ x) (sym w.counts) refl
 
-  pub float_lent : (s : FloatEntry) (r : Numbered ℕ) → NumbersFloat s c l r l'
+  pub float_lent : (s : FloatEntry) (r : WithCounters ℕ) → NumbersFloat s c l r l'
       → NumbersFloat s (counted k) l (record { value = r.value; counters = counted (set k 6 r.counters.floats) }) l'
   float_lent s r h =
       let g : NumbersFloat s (counted k) l r l' = subst (λ (x : Counters). NumbersFloat s x l r l') read h in

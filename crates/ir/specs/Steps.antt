@@ -12,7 +12,7 @@ use Rattle.conversion.specs.Written.{word, encode_instr, encode_var, encode_labe
 use Rattle.ir.specs.declared.structs.Counters.{Counters}
 use Rattle.ir.specs.declared.structs.Label.{Label}
 use Rattle.ir.specs.declared.structs.VarId.{VarId}
-use Rattle.ir.specs.declared.structs.Numbered.{Numbered}
+use Rattle.ir.specs.declared.structs.WithCounters.{WithCounters}
 use Rattle.ir.specs.Instructions.{var_of}
 use Rattle.ir.specs.Amounts.{amount, Spent}
 use Rattle.ir.specs.Search.{float_head}
@@ -90,7 +90,7 @@ pub record Emits (i : Ir.Instr) (k : Counters) (l : List ℕ) (k' : Counters) (l
   pub spent : Spent k k' (amount 1 0 0 0 0)
   pub entry : Wrote l (instruction_entry_at k.instructions) (encode_instr i) (more_instructions k) k' l'
 
-pub record AddsVar (y : ℕ) (k : Counters) (l : List ℕ) (r : Numbered VarId) (l' : List ℕ) : Type 0 where
+pub record AddsVar (y : ℕ) (k : Counters) (l : List ℕ) (r : WithCounters VarId) (l' : List ℕ) : Type 0 where
   pub next : Next (Ir.new_var y) k l (var_of r.value) r.counters l'
   pub typed : r.value.1 ≡ y
   pub spent : Spent k r.counters (amount 0 1 0 0 0)
@@ -106,7 +106,7 @@ LabelAdded kind opener k l k' l' =
     (label_entry_at k.records k.labels) (encode_label (named kind opener)) (more_labels k) k' l'
 
 -- an entry more, or one that was there
-pub record NumbersLabel (kind opener : ℕ) (k : Counters) (l : List ℕ) (r : Numbered Label) (l' : List ℕ) : Type 0 where
+pub record NumbersLabel (kind opener : ℕ) (k : Counters) (l : List ℕ) (r : WithCounters Label) (l' : List ℕ) : Type 0 where
   pub next : Next (Ir.label_id (named kind opener)) k l r.value.0 r.counters l'
   pub spent : Spent k r.counters (amount 0 0 1 0 0)
   pub entry : LabelAdded kind opener k l r.counters l' ⊎ TablesStay k l r.counters l'
@@ -118,7 +118,7 @@ StringAdded o offset len k l k' l' =
     (string_slot_at k.records o) (word k.strings) (more_strings k) k' l'
 
 -- the string at this place, whose text has the number o: so for all texts whose numbers tell them apart
-pub record NumbersString (o offset len : ℕ) (k : Counters) (l : List ℕ) (r : Numbered ℕ) (l' : List ℕ) : Type 0 where
+pub record NumbersString (o offset len : ℕ) (k : Counters) (l : List ℕ) (r : WithCounters ℕ) (l' : List ℕ) : Type 0 where
   pub next : (texts : NumberedTexts) → TellsApart texts.number k.records → texts.number (text_at texts.text offset len) ≡ o
       → NextIn texts (Ir.string_id (entry_of_string texts.text offset len)) k l r.value r.counters l'
   pub spent : Spent k r.counters (amount 0 0 0 1 0)
@@ -130,7 +130,7 @@ FloatAdded bytes b last k l k' l' =
     WroteThree l (float_entry_at k.records k.floats) bytes (float_link_at k.records k.floats) (word last)
     (float_head_at k.records b) (word k.floats) (more_floats k) k' l'
 
-pub record NumbersFloat (e : FloatEntry) (k : Counters) (l : List ℕ) (r : Numbered ℕ) (l' : List ℕ) : Type 0 where
+pub record NumbersFloat (e : FloatEntry) (k : Counters) (l : List ℕ) (r : WithCounters ℕ) (l' : List ℕ) : Type 0 where
   pub next : Next (Ir.float_id e) k l r.value r.counters l'
   pub spent : Spent k r.counters (amount 0 0 0 0 1)
   pub entry :

@@ -9,18 +9,18 @@ use crate::arena::{
     LABEL_BYTES, LABEL_SLOT_BYTES, LABEL_SLOTS, LABELS, SEARCH_BYTES, VARIABLE_BYTES, VARIABLES,
 };
 use crate::search::is_label_at;
-use crate::structs::{Counters, Label, Numbered, VarId};
+use crate::structs::{Counters, Label, VarId, WithCounters};
 use records::words::{index, load, put_pair, put_word};
 
 // A new variable of this type: its number is its index among its function's variables.
-fn add_var(arena: &mut [u8], k: Counters, ty: u32) -> Numbered<VarId>
+fn add_var(arena: &mut [u8], k: Counters, ty: u32) -> WithCounters<VarId>
     requires { Room k arena.old × (k.variables < 3 * k.records) }
     ensures { AddsVar ty k arena.old result arena.new }
 {
     let v = k.variables;
     let var = VarId((v - k.variables_before) as u32, ty);
     put_word(arena, VARIABLES * k.records + VARIABLE_BYTES * v, ty);
-    Numbered {
+    WithCounters {
         value: var,
         counters: Counters {
             variables: v + 1,
@@ -38,7 +38,7 @@ fn label_slot(n: usize, kind: u32, opener: u32) -> usize
 }
 
 // A label more: its number at its slot, and its entry at the end.
-fn add_label(arena: &mut [u8], k: Counters, kind: u32, opener: u32) -> Numbered<Label>
+fn add_label(arena: &mut [u8], k: Counters, kind: u32, opener: u32) -> WithCounters<Label>
     requires { Room k arena.old × (k.labels < 3 * k.records) × HasSlot k.records (named kind opener) }
     ensures { (result.value.0 ≡ k.labels - k.labels_before) × LabelAdded kind opener k arena.old result.counters arena.new }
 {
@@ -47,7 +47,7 @@ fn add_label(arena: &mut [u8], k: Counters, kind: u32, opener: u32) -> Numbered<
     let slot = label_slot(k.records, kind, opener);
     put_word(arena, slot, number);
     put_pair(arena, LABELS * k.records + LABEL_BYTES * v, kind, opener);
-    Numbered {
+    WithCounters {
         value: Label(number),
         counters: Counters { labels: v + 1, ..k },
     }
@@ -73,13 +73,13 @@ fn is_label(arena: &[u8], k: Counters, number: u32, kind: u32, opener: u32) -> b
 
 // The label of this kind that this record opens: its number is its index among its function's labels, added the first time it is asked. Its slot
 // has the number, or what another function or nobody wrote there: the label that stands under the number tells.
-fn number_label(arena: &mut [u8], k: Counters, kind: u32, opener: u32) -> Numbered<Label>
+fn number_label(arena: &mut [u8], k: Counters, kind: u32, opener: u32) -> WithCounters<Label>
     requires { Room k arena.old × (k.labels < 3 * k.records) × HasSlot k.records (named kind opener) }
     ensures { NumbersLabel kind opener k arena.old result arena.new }
 {
     let number = load(arena, label_slot(k.records, kind, opener));
     if is_label(arena, k, number, kind, opener) {
-        return Numbered {
+        return WithCounters {
             value: Label(number),
             counters: k,
         };

@@ -14,7 +14,7 @@ use crate::arena::{
 };
 use crate::floats::{FloatBits, entry_bits};
 use crate::search::walk_float;
-use crate::structs::{Counters, Numbered, TextId};
+use crate::structs::{Counters, TextId, WithCounters};
 use records::words::{
     Four, SECOND_WORD, THIRD_WORD, high, index, load, low, put_four, put_pair, put_word,
 };
@@ -31,7 +31,7 @@ fn has_number(arena: &[u8], k: Counters, i: usize, o: usize) -> bool
 }
 
 // A string more, with this text: its own number goes to the slot of the text's.
-fn add_string(arena: &mut [u8], k: Counters, text: TextId) -> Numbered<u32>
+fn add_string(arena: &mut [u8], k: Counters, text: TextId) -> WithCounters<u32>
     requires { Room k arena.old × (k.strings < k.records) × (text.number < k.records) }
     ensures { (result.value ≡ k.strings) × StringAdded text.number text.offset text.len k arena.old result.counters arena.new }
 {
@@ -53,7 +53,7 @@ fn add_string(arena: &mut [u8], k: Counters, text: TextId) -> Numbered<u32>
         STRING_SLOTS * k.records + SEARCH_BYTES * text.number,
         number,
     );
-    Numbered {
+    WithCounters {
         value: number,
         counters: Counters {
             strings: v + 1,
@@ -64,13 +64,13 @@ fn add_string(arena: &mut [u8], k: Counters, text: TextId) -> Numbered<u32>
 
 // The string with this text, its entry the place of its first use. The slot of the text's number has the string, or what nobody wrote there: the number
 // beside the string tells. So no text is read.
-pub fn string_id(arena: &mut [u8], k: Counters, text: TextId) -> Numbered<u32>
+pub fn string_id(arena: &mut [u8], k: Counters, text: TextId) -> WithCounters<u32>
     requires { Room k arena.old × (k.strings < k.records) × (text.number < k.records) }
     ensures { NumbersString text.number text.offset text.len k arena.old result arena.new }
 {
     let number = load(arena, STRING_SLOTS * k.records + SEARCH_BYTES * text.number);
     if has_number(arena, k, index(number), text.number) {
-        return Numbered {
+        return WithCounters {
             value: number,
             counters: k,
         };
@@ -121,7 +121,7 @@ fn float_head(arena: &[u8], k: Counters, b: usize) -> usize
 }
 
 // A float more, before the others of its bucket b, of which `last` is one past the last.
-fn add_float(arena: &mut [u8], k: Counters, w: Four, b: usize, last: usize) -> Numbered<u32>
+fn add_float(arena: &mut [u8], k: Counters, w: Four, b: usize, last: usize) -> WithCounters<u32>
     requires { Room k arena.old × (k.floats < 2 * k.records) × (b < k.records) × (last ≤ k.floats) }
     ensures { (result.value ≡ k.floats) × FloatAdded (word w.0 ++ word w.1 ++ word w.2 ++ word w.3) b last k arena.old result.counters arena.new }
 {
@@ -135,14 +135,14 @@ fn add_float(arena: &mut [u8], k: Counters, w: Four, b: usize, last: usize) -> N
         FLOAT_HEADS * k.records + SEARCH_BYTES * b,
         number,
     );
-    Numbered {
+    WithCounters {
         value: number,
         counters: Counters { floats: v + 1, ..k },
     }
 }
 
 // The float with these bits and this mark, looked for among those of its bucket.
-pub fn float_id(arena: &mut [u8], k: Counters, f: FloatBits) -> Numbered<u32>
+pub fn float_id(arena: &mut [u8], k: Counters, f: FloatBits) -> WithCounters<u32>
     requires { Room k arena.old × (k.floats < 2 * k.records) }
     ensures { NumbersFloat (entry_of_float f) k arena.old result arena.new }
 {
@@ -151,7 +151,7 @@ pub fn float_id(arena: &mut [u8], k: Counters, f: FloatBits) -> Numbered<u32>
     let b = float_bucket(k.records, w);
     let last = float_head(arena, k, b);
     match walk_float(arena, FLOATS * k.records, FLOAT_LINKS * k.records, last, w) {
-        Some(i) => Numbered {
+        Some(i) => WithCounters {
             value: i as u32,
             counters: k,
         },

@@ -120,7 +120,7 @@ pub struct Counters {
 
 // What a step numbered, and the counters that count it.
 #[derive(Clone, Copy)]
-pub struct Numbered<T> {
+pub struct WithCounters<T> {
     pub value: T,
     pub counters: Counters,
 }
@@ -399,23 +399,23 @@ pub fn emit_comment(arena: &mut [u8], k: &mut [usize], statement: u32)
 }
 
 // A new variable of this type: its number is its index among its function's variables.
-pub fn new_var(arena: &mut [u8], k: Counters, ty: u32) -> Numbered<VarId>
+pub fn new_var(arena: &mut [u8], k: Counters, ty: u32) -> WithCounters<VarId>
     requires { Room k arena.old × (k.variables < 3 * k.records) }
     ensures { AddsVar ty k arena.old result arena.new }
 {
     let mut f = k;
     let value = counter::new_var(arena, &mut f, ty);
-    Numbered { value, counters: f }
+    WithCounters { value, counters: f }
 }
 
 // The label of this kind that this record opens: its number is its index among its function's labels, added the first time it is asked.
-pub fn label_id(arena: &mut [u8], k: Counters, kind: u32, opener: u32) -> Numbered<Label>
+pub fn label_id(arena: &mut [u8], k: Counters, kind: u32, opener: u32) -> WithCounters<Label>
     requires { Room k arena.old × (k.labels < 3 * k.records) × HasSlot k.records (named kind opener) }
     ensures { NumbersLabel kind opener k arena.old result arena.new }
 {
     let mut f = k;
     let value = counter::label_id(arena, &mut f, kind, opener);
-    Numbered { value, counters: f }
+    WithCounters { value, counters: f }
 }
 
 // The function at hand is done: its entry, and the next one begins.

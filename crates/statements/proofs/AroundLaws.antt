@@ -32,7 +32,7 @@ use Rattle.ir.specs.declared.structs.VarId.{VarId}
 use Rattle.ir.specs.declared.structs.Operand.{Operand}
 use Rattle.ir.specs.declared.structs.Operand.TheVariants.{Var as var}
 use Rattle.ir.specs.declared.structs.Label.{Label}
-use Rattle.ir.specs.declared.structs.Numbered.{Numbered}
+use Rattle.ir.specs.declared.structs.WithCounters.{WithCounters}
 use Rattle.ir.specs.Amounts.{amount}
 use Rattle.ir.specs.Instructions.{operand_of, var_of}
 use Rattle.ir.specs.Steps.{StopsIn, Emits, AddsVar, named, NumbersLabel}
@@ -59,7 +59,7 @@ use Rattle.statements.proofs.ConvertLaws.{converts-gave, converts-refused, conve
 pub variable_type_lem : {tree : List ℕ} {v y : ℕ} → v ≡ y → TypeAt tree y → TypeAt tree v
 variable_type_lem {tree = tree} e t = subst (λ (x : ℕ). TypeAt tree x) (sym e) t
 
-pub unary-adds : {tree : List ℕ} {op : UnaryOp} {y : ℕ} {src : Ir.Operand} {r : Numbered VarId} {k k₂ : Counters} {l l₁ l₂ : List ℕ}
+pub unary-adds : {tree : List ℕ} {op : UnaryOp} {y : ℕ} {src : Ir.Operand} {r : WithCounters VarId} {k k₂ : Counters} {l l₁ l₂ : List ℕ}
     → length l₁ ≡ length l → AddsVar y k l r l₁ → length l₂ ≡ length l₁ → Emits (Unary (var_of r.value) op src) r.counters l₁ k₂ l₂ → TypeAt tree r.value.1
     → FitAdds tree (finish_unary op y src) (amount 1 1 0 0 0) k l (record { operand = var r.value; counters = k₂ }) l₂
 unfolding finish_unary OperandIn
@@ -71,7 +71,7 @@ unary-adds {op = op} {src = src} {r = r} {k₂ = k₂} {l₂ = l₂} h p h' q t 
 
 -- ---- And and Or
 
-pub begin_adds : {e y : ℕ} {r : Numbered VarId} {a b : Numbered Label} {k : Counters} {l l₁ l₂ l₃ : List ℕ}
+pub begin_adds : {e y : ℕ} {r : WithCounters VarId} {a b : WithCounters Label} {k : Counters} {l l₁ l₂ l₃ : List ℕ}
     → length l₁ ≡ length l → AddsVar y k l r l₁ → length l₂ ≡ length l₁ → NumbersLabel 6 e r.counters l₁ a l₂
     → length l₃ ≡ length l₂ → NumbersLabel 7 e a.counters l₂ b l₃
     → Adds (begin_logic e y) (amount 0 1 2 0 0) k l (var_of r.value) b.counters l₃
@@ -119,7 +119,7 @@ module _ (tree : List ℕ) (e : ℕ) {d : ℕ} (dest : VarId) (o : Operand) {k k
 
 -- ---- any other binary
 
-pub binary-adds : {tree : List ℕ} (P : Program) {op : BinaryOp} {y : ℕ} (q : ℕ) (left right : Operand) {a b : Fitted} {r : Numbered VarId} {k k₄ : Counters} {l l₁ l₂ l₃ l₄ : List ℕ}
+pub binary-adds : {tree : List ℕ} (P : Program) {op : BinaryOp} {y : ℕ} (q : ℕ) (left right : Operand) {a b : Fitted} {r : WithCounters VarId} {k k₄ : Counters} {l l₁ l₂ l₃ l₄ : List ℕ}
     → FitAdds tree (fit_operand P (operand_of left) q) (amount 1 1 0 0 1) k l a l₁
     → FitAdds tree (fit_operand P (operand_of right) q) (amount 1 1 0 0 1) a.counters l₁ b l₂
     → length l₃ ≡ length l₂ → AddsVar y b.counters l₂ r l₃
@@ -256,7 +256,7 @@ function-callee {tree = tree} {f = f} t q = go (subst (λ (z : OrRefused Code-Ca
     go : IsCallee tree (Ok (Code-Callee.Callee.Function f)) → FunctionAt tree f
     go (IsCallee.a_function h) = h
 
-module _ {tree text l l₁ l₂ s s' : List ℕ} {c : Converter} (e : ℕ) {y count : ℕ} {r : Numbered VarId} (given : Args) (operands : List Ir.Operand) {to : Callee} {a : Converted}
+module _ {tree text l l₁ l₂ s s' : List ℕ} {c : Converter} (e : ℕ) {y count : ℕ} {r : WithCounters VarId} (given : Args) (operands : List Ir.Operand) {to : Callee} {a : Converted}
     (h : length l₁ ≡ length l) (p : AddsVar y c.counters l r l₁) where
   pub finish-function : (f : ℕ) → CallFunction (function_of tree text f) ≡ to
       → Converts tree text (call_value (program tree text) (all_keys tree text) e (var_of r.value) given operands (CallFunction (function_of tree text f))) (amount (2 * count + 1) count 0 0 count) (with_counters c r.counters) l₁ s a l₂ s'

@@ -29,7 +29,7 @@ use Rattle.conversion.specs.Expressions.{Functions}
 use Rattle.conversion.specs.Statements.{zero_value, convert_declare}
 use Rattle.types.specs.Fits.{IsType}
 use Rattle.ir.specs.declared.structs.Counters.{Counters}
-use Rattle.ir.specs.declared.structs.Numbered.{Numbered}
+use Rattle.ir.specs.declared.structs.WithCounters.{WithCounters}
 use Rattle.ir.specs.declared.structs.Operand.{Operand}
 use Rattle.ir.specs.declared.structs.VarId.{VarId}
 use Rattle.ir.specs.Amounts.{Amount, amount, both}
@@ -138,7 +138,7 @@ abbrev pub declared_then : {X : Type 0} → List ℕ → List ℕ → ℕ → Bo
 declared_then tree text r constant place y S f =
     new_var y >>= (λ (x : Ir.VarId). lift (declare (record { name = text_of tree text r A; constant = constant; var_id = x }) place S) >>= (λ (sc1 : Def.Scope). f x sc1))
 
-module _ {tree text l s : List ℕ} {c : Converter} (p : Converting tree text l s c) {y : ℕ} {made : Numbered VarId} {l₁ : List ℕ}
+module _ {tree text l s : List ℕ} {c : Converter} (p : Converting tree text l s c) {y : ℕ} {made : WithCounters VarId} {l₁ : List ℕ}
     (long : length l₁ ≡ length l) (new : AddsVar y c.counters l made l₁) (few : c.scope.names < records tree) (typed : TypeAt tree y) where
   -- the variable's type is the one asked for
   pub var_typed : TypeAt tree made.value.1
@@ -195,7 +195,7 @@ pub least_picks : {X : Type 0} {f n : ℕ} (x y : X) → n ≤ f → y ≡ pick 
 unfolding pick
 least_picks {f = f} {n = n} x y h = rw (le-ltb f n h)
 
-pub zero_float-adds : {k k' : Counters} {l l₁ l' : List ℕ} {e : FloatEntry} {p : Numbered ℕ} (v : VarId) (short : Bool) → e ≡ entry 0 short → length l₁ ≡ length l
+pub zero_float-adds : {k k' : Counters} {l l₁ l' : List ℕ} {e : FloatEntry} {p : WithCounters ℕ} (v : VarId) (short : Bool) → e ≡ entry 0 short → length l₁ ≡ length l
     → NumbersFloat e k l p l₁ → length l' ≡ length l₁ → Emits (Ir.Copy (var_of v) (Ir.OFloat p.value)) p.counters l₁ k' l'
     → Adds (zero_float (var_of v) short) (amount 1 0 0 0 1) k l tt k' l'
 unfolding zero_float
@@ -274,7 +274,7 @@ module _ {tree text l s : List ℕ} {c : Converter} (p : Converting tree text l 
   declare-type : TypeAt tree (word_of tree r C)
   declare-type = let k = declare-c tree text p.ready.keyed.good r i.below i.kind in record { below = omega (arith, k.0, i.below); kind = k.1 }
 
-  module _ {y : ℕ} (e : y ≡ word_of tree r C) {made : Numbered VarId} {l₁ : List ℕ} (long : length l₁ ≡ length l) (new : AddsVar y c.counters l made l₁) where
+  module _ {y : ℕ} (e : y ≡ word_of tree r C) {made : WithCounters VarId} {l₁ : List ℕ} (long : length l₁ ≡ length l) (new : AddsVar y c.counters l made l₁) where
     newly : AddsVar (word_of tree r C) c.counters l made l₁
     newly = subst (λ (z : ℕ). AddsVar z c.counters l made l₁) e new
 

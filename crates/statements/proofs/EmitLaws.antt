@@ -8,7 +8,7 @@ use Rattle.conversion.specs.Ir.{Instr, emit, new_var, label_id}
 use Rattle.ir.specs.declared.structs.Counters.{Counters}
 use Rattle.ir.specs.declared.structs.VarId.{VarId}
 use Rattle.ir.specs.declared.structs.Label.{Label}
-use Rattle.ir.specs.declared.structs.Numbered.{Numbered}
+use Rattle.ir.specs.declared.structs.WithCounters.{WithCounters}
 use Rattle.ir.specs.Amounts.{amount}
 use Rattle.ir.specs.Instructions.{var_of}
 use Rattle.ir.specs.Steps.{Emits, AddsVar, named, NumbersLabel}
@@ -18,9 +18,9 @@ module _ {k : Counters} {l l' : List ℕ} (long : length l' ≡ length l) where
   pub emit-adds : {i : Instr} {k' : Counters} → Emits i k l k' l' → Adds (emit i) (amount 1 0 0 0 0) k l tt k' l'
   emit-adds p = record { next = p.next; spent = p.spent; long = long }
 
-  pub var_adds : {y : ℕ} {r : Numbered VarId} → AddsVar y k l r l' → Adds (new_var y) (amount 0 1 0 0 0) k l (var_of r.value) r.counters l'
+  pub var_adds : {y : ℕ} {r : WithCounters VarId} → AddsVar y k l r l' → Adds (new_var y) (amount 0 1 0 0 0) k l (var_of r.value) r.counters l'
   var_adds p = record { next = p.next; spent = p.spent; long = long }
 
-  pub label_adds : {kind opener : ℕ} {r : Numbered Label} → NumbersLabel kind opener k l r l'
+  pub label_adds : {kind opener : ℕ} {r : WithCounters Label} → NumbersLabel kind opener k l r l'
       → Adds (label_id (named kind opener)) (amount 0 0 1 0 0) k l r.value.0 r.counters l'
   label_adds p = record { next = p.next; spent = p.spent; long = long }

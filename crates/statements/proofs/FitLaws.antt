@@ -30,7 +30,7 @@ use Rattle.conversion.specs.Statements.{refloat, cast_operand, fit_operand, para
 use Rattle.types.specs.Fits.{fits_at, range_error_at}
 use Rattle.ir.specs.declared.structs.Counters.{Counters}
 use Rattle.ir.specs.declared.structs.VarId.{VarId}
-use Rattle.ir.specs.declared.structs.Numbered.{Numbered}
+use Rattle.ir.specs.declared.structs.WithCounters.{WithCounters}
 use Rattle.ir.specs.declared.structs.Operand.{Operand}
 use Rattle.ir.specs.declared.floats.FloatBits.{FloatBits}
 use Rattle.ir.specs.Amounts.{Amount, amount}
@@ -65,7 +65,7 @@ module _ {tree : List ℕ} {k : Counters} {l : List ℕ} where
 
   -- ---- a float that takes another mark, and a variable that is cast
 
-  pub refloat-fits : {l' : List ℕ} (i b : ℕ) (short : Bool) (f : FloatBits) (p : Numbered ℕ) → length l' ≡ length l
+  pub refloat-fits : {l' : List ℕ} (i b : ℕ) (short : Bool) (f : FloatBits) (p : WithCounters ℕ) → length l' ≡ length l
       → Next (float_bits i) k l b k l → entry_of_float f ≡ entry b short → NumbersFloat (entry_of_float f) k l p l'
       → FitAdds tree (refloat i short) (amount 0 0 0 0 1) k l (record { operand = Operand.Float p.value; counters = p.counters }) l'
   unfolding OperandIn
@@ -79,7 +79,7 @@ module _ {tree : List ℕ} {k : Counters} {l : List ℕ} where
     operand = tt;
   }
 
-  pub cast_fits : {k₂ : Counters} {l₁ l₂ : List ℕ} (v : VarId) (y : ℕ) (made : Numbered VarId) → length l₂ ≡ length l → AddsVar y k l made l₁
+  pub cast_fits : {k₂ : Counters} {l₁ l₂ : List ℕ} (v : VarId) (y : ℕ) (made : WithCounters VarId) → length l₂ ≡ length l → AddsVar y k l made l₁
       → Emits (Ir.Cast (var_of made.value) (OVar (var_of v))) made.counters l₁ k₂ l₂ → made.value.1 ≡ y → TypeAt tree y
       → FitAdds tree (cast_operand true (var_of v) y) (amount 1 1 0 0 0) k l (record { operand = Operand.Var made.value; counters = k₂ }) l₂
   unfolding OperandIn

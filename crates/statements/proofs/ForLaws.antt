@@ -33,7 +33,7 @@ use Rattle.conversion.proofs.MonadLaws.{seq_is, pure-first}
 use Rattle.types.specs.Fits.{IsType}
 use Rattle.types.proofs.FromGood.{is-type}
 use Rattle.ir.specs.declared.structs.Counters.{Counters}
-use Rattle.ir.specs.declared.structs.Numbered.{Numbered}
+use Rattle.ir.specs.declared.structs.WithCounters.{WithCounters}
 use Rattle.ir.specs.declared.structs.VarId.{VarId}
 use Rattle.ir.specs.Amounts.{Amount, amount, both}
 use Rattle.ir.specs.Instructions.{var_of}
@@ -281,7 +281,7 @@ module _ {tree text l s : List ℕ} {c : Converter} {r v : ℕ} (p : Converting 
   few : c.scope.names < records tree
   few = omega (arith, for_records p.ready.keyed.good is, afforded.names)
 
-  module _ {y : ℕ} {made : Numbered VarId} {l₁ : List ℕ} (ey : y ≡ word_of tree v C) (long : length l₁ ≡ length l) (new : AddsVar y c.counters l made l₁) where
+  module _ {y : ℕ} {made : WithCounters VarId} {l₁ : List ℕ} (ey : y ≡ word_of tree v C) (long : length l₁ ≡ length l) (new : AddsVar y c.counters l made l₁) where
     typed : TypeAt tree y
     typed = subst (λ (z : ℕ). TypeAt tree z) (sym ey) t
 

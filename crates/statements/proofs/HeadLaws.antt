@@ -29,7 +29,7 @@ use Rattle.types.proofs.FromGood.{is_expr_lem}
 use Rattle.ir.specs.declared.structs.Counters.{Counters}
 use Rattle.ir.specs.declared.structs.VarId.{VarId}
 use Rattle.ir.specs.declared.structs.Operand.{Operand}
-use Rattle.ir.specs.declared.structs.Numbered.{Numbered}
+use Rattle.ir.specs.declared.structs.WithCounters.{WithCounters}
 use Rattle.ir.specs.Amounts.{Amount, amount, both}
 use Rattle.ir.specs.Instructions.{operand_of, var_of}
 use Rattle.ir.specs.Steps.{Emits, AddsVar, named}
@@ -87,7 +87,7 @@ count-adds r {x = x} {s = s} {u = u} es eu a b h p d =
     (adds_seq (place_label (loop_check r)) (one_more x es eu h p) d))) (omega arith)
 
 -- the second bound fitted, whether the variable is below it, and the jump
-pub test-adds : {tree : List ℕ} (P : Program) (r : ℕ) {x : VarId} (b : Operand) {a : Fitted} {v : Numbered VarId} {k k₃ k₄ : Counters} {l l₁ l₂ l₃ l₄ : List ℕ}
+pub test-adds : {tree : List ℕ} (P : Program) (r : ℕ) {x : VarId} (b : Operand) {a : Fitted} {v : WithCounters VarId} {k k₃ k₄ : Counters} {l l₁ l₂ l₃ l₄ : List ℕ}
     → FitAdds tree (fit_operand P (operand_of b) x.1) (amount 1 1 0 0 1) k l a l₁
     → length l₂ ≡ length l₁ → AddsVar 6 a.counters l₁ v l₂
     → length l₃ ≡ length l₂ → Emits (Binary (var_of v.value) Lt (OVar (var_of x)) (operand_of a.operand)) v.counters l₂ k₃ l₃

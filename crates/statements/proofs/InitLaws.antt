@@ -38,7 +38,7 @@ use Rattle.types.proofs.FromGood.{is_expr_lem}
 use Rattle.ir.specs.declared.structs.Counters.{Counters}
 use Rattle.ir.specs.declared.structs.VarId.{VarId}
 use Rattle.ir.specs.declared.structs.Operand.{Operand}
-use Rattle.ir.specs.declared.structs.Numbered.{Numbered}
+use Rattle.ir.specs.declared.structs.WithCounters.{WithCounters}
 use Rattle.ir.specs.Amounts.{Amount, amount}
 use Rattle.ir.specs.Instructions.{operand_of, var_of}
 use Rattle.ir.specs.Steps.{Emits, AddsVar}
@@ -243,7 +243,7 @@ module _ {tree text l s : List ℕ} {c : Converter} {r y : ℕ} (p : Converting 
   unfolding declare_init
   declare_steps_lem src ed = ap₂ (λ (b : Bool) (w : ℕ). declared_then tree text r b r w (scope_at tree text s c.scope) (copied src)) (mark_bit ed (init_detail tree text p.ready.keyed.good r x.below x.kind)) ez
 
-  module _ {made : Numbered VarId} {l₁ : List ℕ} (long : length l₁ ≡ length l) (new : AddsVar z c.counters l made l₁) where
+  module _ {made : WithCounters VarId} {l₁ : List ℕ} (long : length l₁ ≡ length l) (new : AddsVar z c.counters l made l₁) where
     pub new_requires : Asked tree text s c.scope r × NameAfforded c.scope made.value
     new_requires = (init_asked p.ready x, var_afforded p long new more-names new_type_lem)
 

@@ -7,7 +7,7 @@ use lib.ListN.{length}
 use Rattle.conversion.specs.Ir as Ir
 use Rattle.ir.specs.declared.structs.Counters.{Counters}
 use Rattle.ir.specs.declared.structs.Label.{Label}
-use Rattle.ir.specs.declared.structs.Numbered.{Numbered}
+use Rattle.ir.specs.declared.structs.WithCounters.{WithCounters}
 use Rattle.ir.specs.Amounts.{amount}
 use Rattle.ir.specs.Steps.{named, Emits, NumbersLabel}
 use Rattle.statements.specs.Meets.{Adds}
@@ -17,7 +17,7 @@ use Rattle.statements.proofs.EmitLaws.{emit-adds, label_adds}
 
 -- ---- a label, and the instruction that names it
 
-module _ {kind opener : ℕ} {k k' : Counters} {l l₁ l' : List ℕ} {r : Numbered Label} where
+module _ {kind opener : ℕ} {k k' : Counters} {l l₁ l' : List ℕ} {r : WithCounters Label} where
   pub jump_adds : length l₁ ≡ length l → NumbersLabel kind opener k l r l₁ → length l' ≡ length l₁ → Emits (Ir.Jump r.value.0) r.counters l₁ k' l'
       → Adds (emit_jump (named kind opener)) (amount 1 0 1 0 0) k l tt k' l'
   unfolding emit_jump

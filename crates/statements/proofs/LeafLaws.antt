@@ -35,7 +35,7 @@ use Rattle.types.specs.Sizes.{exact_size, bytes_for, exact_bytes, size_at}
 use Rattle.ir.specs.declared.structs.Counters.{Counters}
 use Rattle.ir.specs.declared.structs.Operand.{Operand}
 use Rattle.ir.specs.declared.floats.FloatBits.{FloatBits}
-use Rattle.ir.specs.declared.structs.Numbered.{Numbered}
+use Rattle.ir.specs.declared.structs.WithCounters.{WithCounters}
 use Rattle.ir.specs.Arena.{NumberedTexts, TellsApart, Room}
 use Rattle.ir.specs.Amounts.{Amount, amount}
 use Rattle.ir.specs.Floats.{entry, entry_of_float}
@@ -103,7 +103,7 @@ module _ (tree text l s : List ℕ) (c : Converter) (m : M Ir.Operand) where
 
 -- ---- a float and a string
 
-module _ (tree text : List ℕ) (e : ℕ) (k : Counters) (l l' : List ℕ) (r : Numbered ℕ) (long : length l' ≡ length l) where
+module _ (tree text : List ℕ) (e : ℕ) (k : Counters) (l l' : List ℕ) (r : WithCounters ℕ) (long : length l' ≡ length l) where
   pub float_leaf : Good tree text → IsKind tree 3 e → (b d : ℕ) (f : FloatBits) → b ≡ word_of tree e 0 + word_of tree e 1 * 4294967296 → d ≡ detail_of tree e
       → entry_of_float f ≡ entry b (eqb d 1) → NumbersFloat (entry_of_float f) k l r l'
       → LeafAdds tree text e (amount 0 0 0 0 1) k l (record { operand = Operand.Float r.value; counters = r.counters }) l'
