@@ -353,12 +353,6 @@ module _ {tree text l s : List ℕ} {c : Converter} (p : Converting tree text l 
     loop-is : {x : Option ℕ} → loop_of o ≡ x → scope.in_loop ≡ x
     loop-is q = in_loop_lem tree text s c.scope o m ∙ q
 
-    -- what the jump asks: the loop is one of the records that the tables count
-    pub jump_asks : {x : ℕ} → BehindAfforded tree text c r → o ≡ Some x → RoomFor c.counters l (amount 1 0 1 0 0) × (x < c.counters.records)
-    jump_asks {x = x} f q =
-        let h : x < records tree = p.loop x (sym m ∙ ap loop_of q) in
-        (record { room = p.room; affords = omega (arith, f.tables) }, omega (arith, p.records_are))
-
     module _ (kind : LabelKind) (outside : ConvertErrorKind) where
       pub jump_outside : {z : ConvertError} → o ≡ None → z ≡ record { kind = outside; place = r }
           → StatesAs (λ t u i d j. loop_jump_steps t u i d j kind outside) c r tree text l s (Stated.Refused z) l s

@@ -9,14 +9,13 @@ use mathlib.Core.List.{List}
 use mathlib.Core.Option.{Option, none, some}
 use Prim.Native.Nat.{ℕ, ◌+◌, ◌*◌, ◌/◌, ◌%◌, ◌^◌, ◌≤◌, ◌<◌}
 use native.Mathlib.Omega.{arith}
-use lib.Dec.{eqb, ltb, leb}
+use lib.Dec.{eqb, ltb}
 use lib.ListN.{length}
 use mir.Syntax.{w64}
 use mir.Val.{to_z}
 use mir.Facts.{to_z_pos}
-use borrow.Author.Tests.{ltb-true, leb-true}
+use borrow.Author.Tests.{ltb-true}
 use Rattle.laws.specs.Fix.{pick}
-use Rattle.laws.proofs.Tests.{and_left}
 use Rattle.records.specs.declared.convert_error.ConvertError.{ConvertError}
 use Rattle.records.specs.Words.{word_at, kind_of, detail_of, word_of, text_at, records, A, B}
 use Rattle.records.specs.Good.{Good}
@@ -261,9 +260,3 @@ module _ (tree text l s : List ℕ) (c : Converter) (e : ℕ) (x : Converting tr
   unfolding convert_expr OperandIn
   leaf_null q =
       converts-most (omega arith) (gives_operand tree text l s c (expr_steps tree text s c e) Operand.Null x.room (rw (expr_null tree text e (sym ek ∙ q))) tt)
-
-  -- what is left is a SizeOf
-  pub leaf_size : kind_of tree e ≤ 8 → (k ≡ 2 → ⊥) → (k ≡ 3 → ⊥) → (k ≡ 4 → ⊥) → (k ≡ 5 → ⊥) → (k ≡ 6 → ⊥) → (k ≡ 7 → ⊥) → IsKind tree 8 e
-  leaf_size h n₂ n₃ n₄ n₅ n₆ n₇ =
-      let least = leb-true 2 (kind_of tree e) (and_left (leb 2 (kind_of tree e)) (leb (kind_of tree e) 11) is.expression) in
-      record { below = expr-low tree text x.ready.keyed.good e is; kind = omega arith }

@@ -77,16 +77,9 @@ module _ {tree text l l' s s' : List ℕ} {m : M Def.Scope} {n : Amount} {q : �
 -- ---- the answer of a block or of a part that leaves the scope
 
 module _ {X : Type 0} {tree text l l' s s' : List ℕ} {m : M X} {x : X} {n : Amount} {c : Converter} where
-  pub finishes_gave : {k : Counters} → length l' ≡ length l → AddsIn (texts_of tree text) m n c.counters l x k l' → StaysFor tree c s s'
-      → Finishes tree text m x n c l s (Finished.Done k) l' s'
-  finishes_gave long p stays = record { meets = meets-gave (texts_of tree text) long p; stays = stays }
-
   pub finishes_refused : {e : ConvertError} → length l' ≡ length l → StopsIn (texts_of tree text) m c.counters l e.kind e.place → StaysFor tree c s s'
       → Finishes tree text m x n c l s (Finished.Refused e) l' s'
   finishes_refused long p stays = record { meets = meets-refused (texts_of tree text) long p; stays = stays }
-
-  pub finishes_same : {m' : M X} {a : Finished} → m ≡ m' → Finishes tree text m x n c l s a l' s' → Finishes tree text m' x n c l s a l' s'
-  finishes_same {a = a} e p = subst (λ (y : M X). Finishes tree text y x n c l s a l' s') e p
 
   pub finishes_most : {n' : Amount} {a : Finished} → Most n n' → Finishes tree text m x n c l s a l' s' → Finishes tree text m x n' c l s a l' s'
   finishes_most h p = record { meets = meets-most (texts_of tree text) p.meets h; stays = p.stays }

@@ -1,6 +1,6 @@
 // Document 01's numbers for labels, and its tags as words of the stack.
 
-// Kinds of labels.
+// Kinds of labels, with their numbers.
 #[derive(Clone, Copy, Debug, PartialEq, Eq)]
 pub(crate) enum LabelKind {
     LoopStart = 1,

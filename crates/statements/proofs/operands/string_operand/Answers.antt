@@ -1,13 +1,9 @@
 -- A string's operand.
 -- The number of its text stands in scratch, and by it the string is numbered. Assumes nothing.
 use native.Mathlib.Omega.{arith}
-use Rattle.expressions.proofs.OriginalLaws.{number-inside}
-use Rattle.statements.proofs.LeafLaws.{string_leaf, string_ready, string_number, string_below}
+use Rattle.statements.proofs.LeafLaws.{string_leaf, string_number, string_below}
 use borrow.Author.Rules.{rules}
 use Rattle.statements.proofs.operands.string_operand.Goals as goal
-
-pub original-requires : goal.original-requires
-original-requires c = number-inside (string_ready c.requires.converting c.requires.affords.1)
 
 pub string_id-requires : goal.string_id-requires
 string_id-requires c = (c.requires.converting.room, omega (arith, c.requires.affords.0.strings), string_below c.requires.converting c.requires.affords.1 c.original.ensures)
