@@ -1,7 +1,7 @@
 -- The loop over a call's arguments: what is left suffices for what was asked, in the scope that the open names stand for and in one turn.
 -- By one turn at a value, at a type, at a refusal, and at the end. Assumes nothing.
 use Rattle.std.specs.Prelude.{Ok, Err}
-use Rattle.expressions.specs.Answers.{Answer}
+use Rattle.expressions.specs.Answers.{OrRefused}
 use mathlib.Core.Path.{◌≡◌, refl, sym, ap, ◌∙◌, subst}
 use mathlib.Core.Logic.{◌⊎◌, inl, inr}
 use mathlib.Core.List.{List, ◌∷◌, ◌++◌}
@@ -248,7 +248,7 @@ module _ (tree text : List ℕ) (good : Good tree text) (s₀ : List ℕ) (sc : 
           pub value_low : (e < r) × IsExpr tree e
           value_low = (omega (arith, found.lower, below-call), found.expression)
 
-          module _ (t : Answer ℕ) (s₁ : List ℕ) (m : TypeMeets tree text s sc turn e t s₁) where
+          module _ (t : OrRefused ℕ) (s₁ : List ℕ) (m : TypeMeets tree text s sc turn e t s₁) where
             typed_now : type_in tree text S e ≡ type_result t
             typed_now = later_type tree text s₀ sc turn typing s l.frame e t s₁ m
 
@@ -263,7 +263,7 @@ module _ (tree text : List ℕ) (good : Good tree text) (s₀ : List ℕ) (sc : 
               adds = λ z. absurd (differ z);
             }
               where
-                differ : ◌≡◌ {A = Answer (Unit {0})} (Err x) (Ok tt) → ⊥
+                differ : ◌≡◌ {A = OrRefused (Unit {0})} (Err x) (Ok tt) → ⊥
                 differ z = let u : ◌≡◌ {A = ℕ} 0 1 = cc in omega arith
 
             pub turn-value : (y : ℕ) → t ≡ Ok y → (s' : List ℕ) → s' ≡ s₁ → (n : ℕ) → n ≡ word_of tree w B → Left tree text s₀ sc turn r s' n

@@ -2,7 +2,7 @@
 -- By the cases of the definitions, and by the listed functions one after the other. Assumes nothing.
 use Rattle.std.specs.Prelude.{Option as StdOption, Some, None, Ok, Err}
 use Rattle.expressions.specs.declared.answers.Callee as Code
-use Rattle.expressions.specs.Answers.{Answer}
+use Rattle.expressions.specs.Answers.{OrRefused}
 use mathlib.Core.Path.{◌≡◌, refl, sym, ap, ap₂, ◌∙◌}
 use mathlib.Core.Bool.{Bool, true, false, not, ◌&&◌}
 use mathlib.Core.List.{List, [], ◌∷◌, ◌++◌, append-nil}
@@ -329,17 +329,17 @@ module _ (tree text : List ℕ) (verb : Text) (l : List TypedArg) (r : ℕ) (t :
       callee = IsCallee.a_function (one_function tree c f at q);
     }
 
-    pub choice_nobody : c ≡ Candidates.Nobody → (a : Answer Code.Callee) → a ≡ Err (record { kind = UnknownFunction; place = r })
+    pub choice_nobody : c ≡ Candidates.Nobody → (a : OrRefused Code.Callee) → a ≡ Err (record { kind = UnknownFunction; place = r })
         → CalleeIs tree text a resolved
     unfolding callee_of refusal
     choice_nobody q a w = rw w (record { is = by_choice ∙ chosen-nobody tree text _ r (rw q at all); callee = IsCallee.no })
 
-    pub choice_several : c ≡ Candidates.Several → (a : Answer Code.Callee) → a ≡ Err (record { kind = AmbiguousCall; place = r })
+    pub choice_several : c ≡ Candidates.Several → (a : OrRefused Code.Callee) → a ≡ Err (record { kind = AmbiguousCall; place = r })
         → CalleeIs tree text a resolved
     unfolding callee_of refusal
     choice_several q a w = rw w (record { is = by_choice ∙ chosen-several tree text _ r (rw q at all); callee = IsCallee.no })
 
-cast_type-is : (tree : List ℕ) (a : Answer (StdOption ℕ)) (y : ℕ) → IsCast tree a → a ≡ Ok (Some y) → TypeAt tree y
+cast_type-is : (tree : List ℕ) (a : OrRefused (StdOption ℕ)) (y : ℕ) → IsCast tree a → a ≡ Ok (Some y) → TypeAt tree y
 cast_type-is tree a y (IsCast.to {y = v} t) e = let z : y ≡ v = cc in rw z t
 cast_type-is tree a y IsCast.not_cast e = absurd (let z : ◌≡◌ {A = ℕ} 0 1 = cc in omega arith)
 cast_type-is tree a y IsCast.no e = absurd (let z : ◌≡◌ {A = ℕ} 0 1 = cc in omega arith)
@@ -397,7 +397,7 @@ module _ (tree text s : List ℕ) (r : ℕ) (c : Call) (o : CallAt tree text r c
   abbrev whole : Result Callee
   whole = resolve_typed (program tree text) (all_keys tree text) (text_of tree text r 0) r (typed_at tree text s (word_of tree r 2))
 
-  module _ (a : Answer (StdOption ℕ)) (h : CastIs tree a (cast_type (program tree text) (all_keys tree text) (verb_of tree text s c) (typed_at tree text s c.first) r)) where
+  module _ (a : OrRefused (StdOption ℕ)) (h : CastIs tree a (cast_type (program tree text) (all_keys tree text) (verb_of tree text s c) (typed_at tree text s c.first) r)) where
     pub typed-refused : (e : ConvertError) → a ≡ Err e → CalleeIs tree text (Err e) whole
     unfolding resolve_typed ◌>>=◌ cast_result refusal callee_of
     typed-refused e q = record { is = same-call ∙ rw (h.is, q); callee = IsCallee.no }
@@ -406,7 +406,7 @@ module _ (tree text s : List ℕ) (r : ℕ) (c : Call) (o : CallAt tree text r c
     unfolding resolve_typed resolve_function ◌>>=◌ cast_result callee_of
     typed-cast y q = record { is = same-call ∙ rw (h.is, q); callee = IsCallee.a_cast (cast_type-is tree a y h.type q) }
 
-    pub typed-function : a ≡ Ok None → (b : Answer Code.Callee)
+    pub typed-function : a ≡ Ok None → (b : OrRefused Code.Callee)
         → CalleeIs tree text b (resolve_function (program tree text) (all_keys tree text) (verb_of tree text s c) (typed_at tree text s c.first) r nothing)
         → CalleeIs tree text b whole
     unfolding resolve_typed ◌>>=◌ cast_result

@@ -2,7 +2,7 @@
 -- By the two steps of typing, in the scope that the open names stand for. Assumes nothing.
 use Rattle.expressions.specs.Answers.{TypeFound}
 use Rattle.std.specs.Prelude.{Option as StdOption, Some, None, Ok, Err}
-use Rattle.expressions.specs.Answers.{Answer}
+use Rattle.expressions.specs.Answers.{OrRefused}
 use mathlib.Core.Path.{◌≡◌, refl, sym, ap, ◌∙◌, subst}
 use mathlib.Core.List.{List, ◌++◌}
 use mathlib.Core.Option.{Option}
@@ -35,7 +35,7 @@ found_common : (tree : List ℕ) (f : StdOption ℕ) → TypeFound tree f → Is
 found_common tree (Some y) (TypeFound.a_type h) = IsCommon.is h
 found_common tree None TypeFound.no_type = IsCommon.neither
 
-module _ (tree text s : List ℕ) (sc : Scope) (turn a b : ℕ) (t : Answer ℕ) (s₁ : List ℕ) (m : TypeMeets tree text s sc turn a t s₁) where
+module _ (tree text s : List ℕ) (sc : Scope) (turn a b : ℕ) (t : OrRefused ℕ) (s₁ : List ℕ) (m : TypeMeets tree text s sc turn a t s₁) where
   abbrev S : Def.Scope
   S = scope_at tree text s sc
 
@@ -58,7 +58,7 @@ module _ (tree text s : List ℕ) (sc : Scope) (turn a b : ℕ) (t : Answer ℕ)
         (type-refused (type_in tree text S a) t x m.meets q);
   }
 
-  module _ (typing : Typing tree text s sc turn) (l : ℕ) (q : t ≡ Ok l) (u : Answer ℕ) (s₂ : List ℕ) (m₂ : TypeMeets tree text s₁ sc turn b u s₂) where
+  module _ (typing : Typing tree text s sc turn) (l : ℕ) (q : t ≡ Ok l) (u : OrRefused ℕ) (s₂ : List ℕ) (m₂ : TypeMeets tree text s₁ sc turn b u s₂) where
     right : type_in tree text S b ≡ type_result u
     right = later_type tree text s sc turn typing s₁ m.frame b u s₂ m₂
 

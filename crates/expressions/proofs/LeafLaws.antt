@@ -2,7 +2,7 @@
 -- By the cases of nodes, the twelve first types, the open names one by one, and a function's word D. Assumes nothing.
 use Rattle.std.specs.Prelude.{Option as StdOption, Some, None, Ok, Err}
 use Rattle.expressions.specs.declared.answers.Callee as Code
-use Rattle.expressions.specs.Answers.{Answer}
+use Rattle.expressions.specs.Answers.{OrRefused}
 use mathlib.Core.Path.{◌≡◌, refl, sym, ap, ◌∙◌, subst}
 use mathlib.Core.Logic.{◌⊎◌, inl, inr}
 use mathlib.Core.Bool.{Bool, true, false}
@@ -143,7 +143,7 @@ module _ (tree text s : List ℕ) (sc : Scope) (e : ℕ) (scoped : Scoped tree s
             (λ j h. subst (λ (z : ℕ). TypeAt tree (word_at s (8 * z + 16 * j + 12) / 2)) (sym scoped.records_are) (scoped.types j h)) hit);
       }
 
-  pub name_unknown : r ≡ None → (z : Answer ℕ) → z ≡ Err (record { kind = UnknownVariable; place = e })
+  pub name_unknown : r ≡ None → (z : OrRefused ℕ) → z ≡ Err (record { kind = UnknownVariable; place = e })
       → TypeIs tree z (type_in tree text (scope_at tree text s sc) e)
   name_unknown q z w =
       refused-at tree (type_in tree text (scope_at tree text s sc) e) UnknownVariable e z
@@ -152,21 +152,21 @@ module _ (tree text s : List ℕ) (sc : Scope) (e : ℕ) (scoped : Scoped tree s
 
 -- ---- what a call gives back
 
-module _ (tree text : List ℕ) (good : Good tree text) (e : ℕ) (c : Answer Code.Callee) (is : IsCallee tree c) where
+module _ (tree text : List ℕ) (good : Good tree text) (e : ℕ) (c : OrRefused Code.Callee) (is : IsCallee tree c) where
   pub value-refused : (x : ConvertError) → c ≡ Err x → TypeIs tree (Err x) (value_result tree text e c)
   unfolding value_result callee_of type_result refusal ◌>>=◌
   value-refused x q = record { is = rw q; type = IsTyped.no }
 
   pub value-cast : (y : ℕ) → c ≡ Ok (Code.Callee.Cast y) → TypeIs tree (Ok y) (value_result tree text e c)
   unfolding value_result callee_of type_result ◌>>=◌ value_type return_type
-  value-cast y q = record { is = rw q; type = IsTyped.is (go (subst (λ (z : Answer Code.Callee). IsCallee tree z) q is)) }
+  value-cast y q = record { is = rw q; type = IsTyped.is (go (subst (λ (z : OrRefused Code.Callee). IsCallee tree z) q is)) }
     where
       go : IsCallee tree (Ok (Code.Callee.Cast y)) → TypeAt tree y
       go (IsCallee.a_cast t) = t
 
   module _ (f : ℕ) (q : c ≡ Ok (Code.Callee.Function f)) where
     pub callee-function : FunctionAt tree f
-    callee-function = go (subst (λ (z : Answer Code.Callee). IsCallee tree z) q is)
+    callee-function = go (subst (λ (z : OrRefused Code.Callee). IsCallee tree z) q is)
       where
         go : IsCallee tree (Ok (Code.Callee.Function f)) → FunctionAt tree f
         go (IsCallee.a_function t) = t
@@ -178,7 +178,7 @@ module _ (tree text : List ℕ) (good : Good tree text) (e : ℕ) (c : Answer Co
     returns-type = function-return tree text good f callee-function
 
     module _ (y : ℕ) (ey : y ≡ word_of tree f D) where
-      pub value_none : y ≡ none → (a : Answer ℕ) → a ≡ Err (record { kind = NoValue; place = e }) → TypeIs tree a (value_result tree text e c)
+      pub value_none : y ≡ none → (a : OrRefused ℕ) → a ≡ Err (record { kind = NoValue; place = e }) → TypeIs tree a (value_result tree text e c)
       unfolding value_result callee_of ◌>>=◌ value_type return_type reference pick
       value_none n a w =
           refused-at tree (value_result tree text e c) NoValue e a (rw (q, returns-type, eq-eqb (word_of tree f D) none (sym ey ∙ n))) w

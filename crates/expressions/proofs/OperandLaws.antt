@@ -1,7 +1,7 @@
 -- The rules of operators as the code meets them: classes of operands, one operand, two operands, their common type, and what is refused.
 -- By the form of a type, by the cases of a class, and by the tests' answers one after the other. Assumes nothing.
 use Rattle.std.specs.Prelude.{Option as StdOption, Some, None, Ok, Err}
-use Rattle.expressions.specs.Answers.{Answer}
+use Rattle.expressions.specs.Answers.{OrRefused}
 use mathlib.Core.Path.{◌≡◌, refl, sym, ap, ◌∙◌, subst}
 use mathlib.Core.Bool.{Bool, true, false}
 use mathlib.Core.List.{List, [], ◌∷◌}
@@ -33,10 +33,10 @@ use Rattle.expressions.proofs.PartLaws.{first_kind}
 use Rattle.expressions.proofs.TypingLaws.{place_is, found-is}
 
 -- a refusal as the answer
-pub refused-at : (tree : List ℕ) (m : Result ℕ) (k : ConvertErrorKind) (p : ℕ) (a : Answer ℕ) → m ≡ err k p → a ≡ Err (record { kind = k; place = p })
+pub refused-at : (tree : List ℕ) (m : Result ℕ) (k : ConvertErrorKind) (p : ℕ) (a : OrRefused ℕ) → m ≡ err k p → a ≡ Err (record { kind = k; place = p })
     → TypeIs tree a m
 unfolding type_result refusal
-refused-at tree m k p a e q = record { is = e ∙ sym (ap type_result q); type = subst (λ (z : Answer ℕ). IsTyped tree z) (sym q) IsTyped.no }
+refused-at tree m k p a e q = record { is = e ∙ sym (ap type_result q); type = subst (λ (z : OrRefused ℕ). IsTyped tree z) (sym q) IsTyped.no }
 
 -- a type that was found
 pub found_type_lem : (tree : List ℕ) (f : StdOption ℕ) (y : ℕ) → TypeFound tree f → f ≡ Some y → TypeAt tree y
@@ -142,7 +142,7 @@ module _ (tree text : List ℕ) (y : ℕ) where
     unfolding unary_type pick type_result
     unary-taken q t = record { is = rw (tested-by ∙ q); type = IsTyped.is t }
 
-    pub unary-refused : b ≡ false → (a : Answer ℕ) → a ≡ Err (record { kind = WrongOperands; place = e })
+    pub unary-refused : b ≡ false → (a : OrRefused ℕ) → a ≡ Err (record { kind = WrongOperands; place = e })
         → TypeIs tree a (unary_type (program tree text) (all_keys tree text) e (get_or unary_ops (detail_of tree e) Neg) y)
     unfolding unary_type pick
     unary-refused q a w =
@@ -192,7 +192,7 @@ module _ (tree text : List ℕ) (good : Good tree text) (s : Sides) (o : Operand
       unfolding range_error_at expr_at program
       right_range = sym (eb text)
 
-      pub error-right : b ≡ true → (a : Answer ℕ) → a ≡ Err (record { kind = LiteralOutOfRange; place = s.right }) → TypeIs tree a error
+      pub error-right : b ≡ true → (a : OrRefused ℕ) → a ≡ Err (record { kind = LiteralOutOfRange; place = s.right }) → TypeIs tree a error
       unfolding binary_error pick
       error-right q a w =
           refused-at tree error LiteralOutOfRange s.right a
@@ -203,13 +203,13 @@ module _ (tree text : List ℕ) (good : Good tree text) (s : Sides) (o : Operand
         unfolding range_error_at expr_at program
         left_range = sym (ec text)
 
-        pub error-left : c ≡ true → (a : Answer ℕ) → a ≡ Err (record { kind = LiteralOutOfRange; place = s.left }) → TypeIs tree a error
+        pub error-left : c ≡ true → (a : OrRefused ℕ) → a ≡ Err (record { kind = LiteralOutOfRange; place = s.left }) → TypeIs tree a error
         unfolding binary_error pick
         error-left p a w =
             refused-at tree error LiteralOutOfRange s.left a
             (rw (right_range ∙ q, left_range ∙ p) (ap (λ (z : ℕ). err LiteralOutOfRange z) (place_is tree text good s.left o.left))) w
 
-        pub error-rest : c ≡ false → (a : Answer ℕ) → a ≡ Err (record { kind = WrongOperands; place = e }) → TypeIs tree a error
+        pub error-rest : c ≡ false → (a : OrRefused ℕ) → a ≡ Err (record { kind = WrongOperands; place = e }) → TypeIs tree a error
         unfolding binary_error pick
         error-rest p a w = refused-at tree error WrongOperands e a (rw (right_range ∙ q, left_range ∙ p)) w
 
@@ -234,7 +234,7 @@ module _ (tree text : List ℕ) (good : Good tree text) (s : Sides) (o : Operand
         gives = result_is rs (gives_bool op) (ops.1 ∙ ap (λ (z : ℕ). result_of (gives_bool (get_or binary_ops z Or))) ed)
 
         -- no common type
-        pub none-common : f ≡ None → (a : Answer ℕ) → TypeIs tree a error → TypeIs tree a whole
+        pub none-common : f ≡ None → (a : OrRefused ℕ) → TypeIs tree a error → TypeIs tree a whole
         unfolding binary_type accepted filter_option found_number
         none-common q a h = record { is = rw (sym ef.is ∙ ap found_number q) h.is; type = h.type }
 
@@ -247,7 +247,7 @@ module _ (tree text : List ℕ) (good : Good tree text) (s : Sides) (o : Operand
           taken : accepts_class (program tree text) (all_keys tree text) (operand_class op) y ≡ b
           taken = sym (eb (operand_class op) class_is)
 
-          pub not_taken : b ≡ false → (a : Answer ℕ) → TypeIs tree a error → TypeIs tree a whole
+          pub not_taken : b ≡ false → (a : OrRefused ℕ) → TypeIs tree a error → TypeIs tree a whole
           unfolding binary_type accepted filter_option pick
           not_taken n a h = record { is = rw (found, taken ∙ n) h.is; type = h.type }
 

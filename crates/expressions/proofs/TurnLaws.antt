@@ -1,7 +1,7 @@
 -- What a turn remembers: nothing typed, one list of records typed after another, a type that was remembered, and a visit.
 -- By the words of scratch that a visit writes, and by sums over all records. Assumes nothing.
 use Rattle.std.specs.Prelude.{Ok}
-use Rattle.expressions.specs.Answers.{Answer}
+use Rattle.expressions.specs.Answers.{OrRefused}
 use mathlib.Core.Path.{◌≡◌, refl, sym, ap, ◌∙◌, subst}
 use mathlib.Core.Logic.{◌⊎◌, inl, inr}
 use mathlib.Core.Bool.{Bool, true, false, ◌||◌}
@@ -379,7 +379,7 @@ module _ (tree text s : List ℕ) (sc : Scope) (turn : ℕ) (k : Typing tree tex
   }
 
   -- so what typing owes after an earlier typing it owes in the scope before that
-  module _ (e : ℕ) (a : Answer ℕ) (s₂ : List ℕ) (m : TypeMeets tree text s₁ sc turn e a s₂) where
+  module _ (e : ℕ) (a : OrRefused ℕ) (s₂ : List ℕ) (m : TypeMeets tree text s₁ sc turn e a s₂) where
     pub later_type : type_in tree text (scope_at tree text s sc) e ≡ type_result a
     later_type = rw (← same-scope) m.meets
 

@@ -3,7 +3,7 @@
 use Rattle.std.specs.Prelude.{Option as StdOption, Some, None, Ok, Err}
 use Rattle.std.specs.Option.{unwrap_or}
 use Rattle.expressions.specs.declared.answers.Callee as Code
-use Rattle.expressions.specs.Answers.{Answer}
+use Rattle.expressions.specs.Answers.{OrRefused}
 use mathlib.Core.Path.{◌≡◌, refl, sym, ap, ◌∙◌, subst}
 use mathlib.Core.Bool.{Bool, true, false}
 use mathlib.Core.Logic.{◌⊎◌, inl, inr}
@@ -60,16 +60,16 @@ unfolding ◌>>=◌ refusal
 bind-refused m x f e = rw e
 
 -- what an answer says
-pub type-ok : (m : Result ℕ) (a : Answer ℕ) (y : ℕ) → m ≡ type_result a → a ≡ Ok y → m ≡ ok y
+pub type-ok : (m : Result ℕ) (a : OrRefused ℕ) (y : ℕ) → m ≡ type_result a → a ≡ Ok y → m ≡ ok y
 unfolding type_result
 type-ok m a y e q = e ∙ rw q
 
-pub type-refused : (m : Result ℕ) (a : Answer ℕ) (x : ConvertError) → m ≡ type_result a → a ≡ Err x → m ≡ refusal x
+pub type-refused : (m : Result ℕ) (a : OrRefused ℕ) (x : ConvertError) → m ≡ type_result a → a ≡ Err x → m ≡ refusal x
 unfolding type_result
 type-refused m a x e q = e ∙ rw q
 
-pub is-typed : (tree : List ℕ) (a : Answer ℕ) (y : ℕ) → IsTyped tree a → a ≡ Ok y → TypeAt tree y
-is-typed tree a y t q = go (subst (λ (z : Answer ℕ). IsTyped tree z) q t)
+pub is-typed : (tree : List ℕ) (a : OrRefused ℕ) (y : ℕ) → IsTyped tree a → a ≡ Ok y → TypeAt tree y
+is-typed tree a y t q = go (subst (λ (z : OrRefused ℕ). IsTyped tree z) q t)
   where
     go : IsTyped tree (Ok y) → TypeAt tree y
     go (IsTyped.is h) = h
@@ -78,7 +78,7 @@ is-typed tree a y t q = go (subst (λ (z : Answer ℕ). IsTyped tree z) q t)
 pub err-ok : {X : Type 0} (k : ConvertErrorKind) (p : ℕ) (x : X) → ◌≡◌ {A = Result X} (err k p) (ok x) → ⊥
 err-ok k p x e = let z : ◌≡◌ {A = ℕ} 0 1 = cc in omega arith
 
-refused-is : (r : ConvertError) (y : ℕ) → ◌≡◌ {A = Answer ℕ} (Err r) (Ok y) → ⊥
+refused-is : (r : ConvertError) (y : ℕ) → ◌≡◌ {A = OrRefused ℕ} (Err r) (Ok y) → ⊥
 refused-is r y e = let z : ◌≡◌ {A = ℕ} 0 1 = cc in omega arith
 
 -- what succeeds after a callee has one
@@ -88,7 +88,7 @@ callee-ok (ok c) f y q g = g c refl
 callee-ok (err k p) f y q g = absurd (err-ok k p y q)
 
 -- the record of a callee stands for it
-callee-stands : (tree text : List ℕ) (S : Def.Scope) (e : ℕ) (a : Answer Code.Callee) → IsCallee tree a → callee_in tree text S e ≡ callee_of tree text a
+callee-stands : (tree text : List ℕ) (S : Def.Scope) (e : ℕ) (a : OrRefused Code.Callee) → IsCallee tree a → callee_in tree text S e ≡ callee_of tree text a
     → (c : Callee) → callee_of tree text a ≡ ok c → Callable tree text S e (callee_record a)
 unfolding callee_of callee_at callee_record pick refusal
 callee-stands tree text S e (Ok (Code.Callee.Function f)) (IsCallee.a_function h) m c q = record { is = m ∙ rw h.kind; stands = inl h }
@@ -108,7 +108,7 @@ unfolding callee_of callee_at pick
 cast-stands tree b (inl h) n text = absurd (n h.kind)
 cast-stands tree b (inr h) n text = record { is = rw (ne_eqb (kind_of tree b) kind_function n); callee = IsCallee.a_cast h }
 
-callee_small : (tree : List ℕ) (a : Answer Code.Callee) → IsCallee tree a → records tree ≤ 16384 → callee_record a < 4294967296
+callee_small : (tree : List ℕ) (a : OrRefused Code.Callee) → IsCallee tree a → records tree ≤ 16384 → callee_record a < 4294967296
 unfolding callee_record
 callee_small tree (Ok (Code.Callee.Function f)) (IsCallee.a_function h) few = omega (arith, h.below)
 callee_small tree (Ok (Code.Callee.Cast y)) (IsCallee.a_cast h) few = omega (arith, h.below)
@@ -206,7 +206,7 @@ module _ (tree text : List ℕ) (good : Good tree text) where
       parts_as l q s₁ t = subst (λ (z : List ℕ). Typed tree text S turn s z s₁) (sym q) t
 
       -- an operator with one operand
-      module _ (q : k ≡ 9) (a : ℕ) (ea : a ≡ word_of tree e A) (t : Answer ℕ) (s₁ : List ℕ) (m : TypeMeets tree text s sc turn a t s₁) where
+      module _ (q : k ≡ 9) (a : ℕ) (ea : a ≡ word_of tree e A) (t : OrRefused ℕ) (s₁ : List ℕ) (m : TypeMeets tree text s sc turn a t s₁) where
         operand_type_lem : type_in tree text S (word_of tree e A) ≡ type_result t
         operand_type_lem = ap (type_in tree text S) (sym ea) ∙ m.meets
 
@@ -223,7 +223,7 @@ module _ (tree text : List ℕ) (good : Good tree text) where
               (type-refused (type_in tree text S (word_of tree e A)) t r operand_type_lem w);
         }
 
-        pub unary-next : (y : ℕ) → t ≡ Ok y → (b : Answer ℕ)
+        pub unary-next : (y : ℕ) → t ≡ Ok y → (b : OrRefused ℕ)
             → TypeIs tree b (unary_type (program tree text) (all_keys tree text) e (get_or unary_ops (detail_of tree e) Neg) y)
             → WorksOut tree text s sc turn e b 0 s₁
         unary-next y w b u = record {
@@ -240,7 +240,7 @@ module _ (tree text : List ℕ) (good : Good tree text) where
         }
 
       -- an operator with two
-      module _ (q : k ≡ 10) (a : ℕ) (ea : a ≡ word_of tree e A) (t : Answer ℕ) (s₁ : List ℕ) (m : TypeMeets tree text s sc turn a t s₁) where
+      module _ (q : k ≡ 10) (a : ℕ) (ea : a ≡ word_of tree e A) (t : OrRefused ℕ) (s₁ : List ℕ) (m : TypeMeets tree text s sc turn a t s₁) where
         left_type : type_in tree text S (word_of tree e A) ≡ type_result t
         left_type = ap (type_in tree text S) (sym ea) ∙ m.meets
 
@@ -262,7 +262,7 @@ module _ (tree text : List ℕ) (good : Good tree text) where
         }
 
         module _ (typing : Typing tree text s sc turn) (l : ℕ) (w : t ≡ Ok l)
-            (b : ℕ) (eb : b ≡ word_of tree e B) (u : Answer ℕ) (s₂ : List ℕ) (m₂ : TypeMeets tree text s₁ sc turn b u s₂) where
+            (b : ℕ) (eb : b ≡ word_of tree e B) (u : OrRefused ℕ) (s₂ : List ℕ) (m₂ : TypeMeets tree text s₁ sc turn b u s₂) where
           right_type : type_in tree text S (word_of tree e B) ≡ type_result u
           right_type = ap (type_in tree text S) (sym eb) ∙ later_type tree text s sc turn typing s₁ m.frame b u s₂ m₂
 
@@ -304,7 +304,7 @@ module _ (tree text : List ℕ) (good : Good tree text) where
               ∙ bind_ok (type_in tree text S b) y (λ r. ok (common_of (program tree text) (all_keys tree text) (expr_at tree text a) l (expr_at tree text b) r))
               (type-ok (type_in tree text S b) u y (later_type tree text s sc turn typing s₁ m.frame b u s₂ m₂) v))
 
-          beside-common : (y : ℕ) → u ≡ Ok y → (sides : Sides) → sides ≡ record { left = a; left_type = l; right = b; right_type = y } → (d : Answer ℕ)
+          beside-common : (y : ℕ) → u ≡ Ok y → (sides : Sides) → sides ≡ record { left = a; left_type = l; right = b; right_type = y } → (d : OrRefused ℕ)
               → TypeIs tree d (binary_type_at tree text e sides) → (f : StdOption ℕ) → FoundIs tree f (common_at tree text sides)
               → (i : ℕ) → d ≡ Ok i → (unwrap_or f 0 < 4294967296) × Beside tree text S e (unwrap_or f 0)
           unfolding found_number
@@ -317,7 +317,7 @@ module _ (tree text : List ℕ) (good : Good tree text) where
           )
           beside-common y v sides es d z None ef i j = absurd (no-common tree text e sides i (sym ef.is) (type-ok (binary_type_at tree text e sides) d i z.is j))
 
-          pub right_next_lem : (y : ℕ) → u ≡ Ok y → (sides : Sides) → sides ≡ record { left = a; left_type = l; right = b; right_type = y } → (d : Answer ℕ)
+          pub right_next_lem : (y : ℕ) → u ≡ Ok y → (sides : Sides) → sides ≡ record { left = a; left_type = l; right = b; right_type = y } → (d : OrRefused ℕ)
               → TypeIs tree d (binary_type_at tree text e sides) → (f : StdOption ℕ) → FoundIs tree f (common_at tree text sides) → (w : ℕ) → w ≡ unwrap_or f 0
               → WorksOut tree text s sc turn e d w s₂
           right_next_lem y v sides es d z f ef w ew = record {
@@ -335,7 +335,7 @@ module _ (tree text : List ℕ) (good : Good tree text) where
           }
 
       -- a call
-      pub call_value_lem : k ≡ 11 → (c : Answer Code.Callee) (s₁ : List ℕ) → CallMeets tree text s sc turn e c s₁ → (b : Answer ℕ)
+      pub call_value_lem : k ≡ 11 → (c : OrRefused Code.Callee) (s₁ : List ℕ) → CallMeets tree text s sc turn e c s₁ → (b : OrRefused ℕ)
           → TypeIs tree b (value_result tree text e c) → (w : ℕ) → w ≡ callee_record c → WorksOut tree text s sc turn e b w s₁
       unfolding value_result
       call_value_lem q c s₁ m b u w ew = record {
@@ -356,7 +356,7 @@ module _ (tree text : List ℕ) (good : Good tree text) where
       }
 
       -- an expression without parts
-      pub leaf_meets : Typing tree text s sc turn → (k ≡ 9 → ⊥) → (k ≡ 10 → ⊥) → (k ≡ 11 → ⊥) → (a : Answer ℕ)
+      pub leaf_meets : Typing tree text s sc turn → (k ≡ 9 → ⊥) → (k ≡ 10 → ⊥) → (k ≡ 11 → ⊥) → (a : OrRefused ℕ)
           → TypeIs tree a (type_in tree text S e) → WorksOut tree text s sc turn e a 0 s
       leaf_meets typing n₉ n₁₀ n₁₁ a h = record {
         frame = frame_refl tree s;
@@ -383,7 +383,7 @@ module _ (tree text : List ℕ) (good : Good tree text) where
         }
 
     -- it is worked out where the turn has none, and kept
-    module _ (new : in_turn tree turn s e ≡ false) (a : Answer ℕ) (b : ℕ) (s₁ : List ℕ) (m : WorksOut tree text s sc turn e a b s₁) where
+    module _ (new : in_turn tree turn s e ≡ false) (a : OrRefused ℕ) (b : ℕ) (s₁ : List ℕ) (m : WorksOut tree text s sc turn e a b s₁) where
       room : 72 * records tree ≤ length s₁
       room = omega (arith, m.frame.same_length, typing.ready.keyed.listed.room)
 
@@ -414,10 +414,10 @@ module _ (tree text : List ℕ) (good : Good tree text) where
         adds = λ y v. absurd (refused-is r y v);
       }
 
-      pub keep_meets : turn < 4294967296 → (d : Answer ℕ) (s₂ : List ℕ) → Keeps tree turn e a b s₁ d s₂ → TypeMeets tree text s sc turn e d s₂
+      pub keep_meets : turn < 4294967296 → (d : OrRefused ℕ) (s₂ : List ℕ) → Keeps tree turn e a b s₁ d s₂ → TypeMeets tree text s sc turn e d s₂
       keep_meets fit d s₂ k = go a refl
         where
-          go : (z : Answer ℕ) → a ≡ z → TypeMeets tree text s sc turn e d s₂
+          go : (z : OrRefused ℕ) → a ≡ z → TypeMeets tree text s sc turn e d s₂
           go (Ok y) q = rw (k.same, q, k.type y q) (kept-type fit y q)
           go (Err r) q = rw (k.same, q, k.refused r q) (kept-refusal r q)
 
@@ -447,7 +447,7 @@ module _ (tree text : List ℕ) (good : Good tree text) where
     }
 
   -- the sides by their words
-  pub sides_meet : (e l r : ℕ) → l ≡ word_of tree e A → r ≡ word_of tree e B → (s : List ℕ) (sc : Scope) (turn : ℕ) (a : Answer (StdOption ℕ)) (s' : List ℕ)
+  pub sides_meet : (e l r : ℕ) → l ≡ word_of tree e A → r ≡ word_of tree e B → (s : List ℕ) (sc : Scope) (turn : ℕ) (a : OrRefused (StdOption ℕ)) (s' : List ℕ)
       → CommonMeets tree text s sc turn l r a s' → SidesMeet tree text s sc turn e a s'
   sides_meet e l r el er s sc turn a s' m = rw (← el, ← er) m
 
@@ -465,7 +465,7 @@ module _ (tree text : List ℕ) (good : Good tree text) where
         adds = λ o v. rw (← binary_parts tree text good e x k.kind) (hit_parts tree text S turn s typing.remembers e k.below (sym et ∙ hit) good x);
       }
 
-  module _ (s : List ℕ) (sc : Scope) (turn r : ℕ) (a : Answer (Unit {0})) (s₁ : List ℕ) (m : ArgsMeet tree text s sc turn (word_of tree r C) a s₁) where
+  module _ (s : List ℕ) (sc : Scope) (turn r : ℕ) (a : OrRefused (Unit {0})) (s₁ : List ℕ) (m : ArgsMeet tree text s sc turn (word_of tree r C) a s₁) where
     abbrev T : Def.Scope
     T = scope_at tree text s sc
 
@@ -481,7 +481,7 @@ module _ (tree text : List ℕ) (good : Good tree text) where
           (m.meets ∙ ap (done_with (slotted tree s₁ (args_at tree text (word_of tree r C)))) q);
     }
 
-    pub call_next : a ≡ Ok tt → (c : Answer Code.Callee)
+    pub call_next : a ≡ Ok tt → (c : OrRefused Code.Callee)
         → CalleeIs tree text c (resolve_typed (program tree text) (all_keys tree text) (text_of tree text r A) r (typed_at tree text s₁ (word_of tree r C)))
         → CallMeets tree text s sc turn r c s₁
     unfolding done_with resolve_call typed_at

@@ -31,7 +31,8 @@ use Rattle.conversion.specs.Visits.{block_visits, body_visits}
 use Rattle.conversion.specs.Functions.{Pool, always_returns, convert_body, finished, convert_function, convert_func}
 use Rattle.conversion.proofs.MonadLaws.{regroup, seq_is, after_none, pure-first}
 use Rattle.ir.specs.declared.structs.Counters.{Counters}
-use Rattle.ir.specs.declared.structs.NewVariable.{NewVariable}
+use Rattle.ir.specs.declared.structs.VarId.{VarId}
+use Rattle.ir.specs.declared.structs.WithCounters.{WithCounters}
 use Rattle.ir.specs.Amounts.{amount, Spent}
 use Rattle.ir.specs.Arena.{NumberedTexts, TablesSoFar, Holds, Room}
 use Rattle.ir.specs.Steps.{grown, next_function, Stands, NextIn, StopsIn, AddsVar, Closes}
@@ -40,7 +41,7 @@ use Rattle.scope.specs.declared.Scope.{Scope}
 use Rattle.scope.specs.Open.{variables_at, scope_at}
 use Rattle.keys.specs.Keys.{all_keys, Keyed}
 use Rattle.expressions.specs.Slots.{Ready}
-use Rattle.expressions.specs.Answers.{Answer, refusal}
+use Rattle.expressions.specs.Answers.{OrRefused, refusal}
 use Rattle.statements.specs.Lent.{Converter, Finished}
 use Rattle.statements.specs.Converting.{Converting, RoomFor, block_amount, BlockAfforded, Stays, StaysFor}
 use Rattle.statements.specs.Meets.{Adds, texts_of}
@@ -164,7 +165,7 @@ module _ {tree text : List ℕ} (good : Good tree text) {f : ℕ} {k₀ k : Coun
     pub var_room : Room k l × (k.variables < 3 * k.records)
     var_room = (v.room.room, omega (arith, so_many, v.room.affords.variables))
 
-    pub vars-next : {r y w : ℕ} {x : NewVariable} {l₁ : List ℕ} → r ≡ word_of tree cell A → y ≡ word_of tree r C → length l₁ ≡ length l → AddsVar y k l x l₁
+    pub vars-next : {r y w : ℕ} {x : WithCounters VarId} {l₁ : List ℕ} → r ≡ word_of tree cell A → y ≡ word_of tree r C → length l₁ ≡ length l → AddsVar y k l x l₁
         → w ≡ word_of tree cell B → VarsLeft tree text f k₀ l₀ x.counters l₁ w
     unfolding new_vars
     vars-next {r} {y} {w} {x} {l₁} er ey h p ew =
@@ -303,7 +304,7 @@ module _ (tree text : List ℕ) (f : ℕ) (s s₁ : List ℕ) where
     pub function : sc.function ≡ f
     pub names : sc.names ≡ length (function_of tree text f).params
 
-  declared : {a : Answer Scope} → ParametersMeet tree text f s s₁ a → {sc : Scope} → a ≡ Ok sc → Declared sc
+  declared : {a : OrRefused Scope} → ParametersMeet tree text f s s₁ a → {sc : Scope} → a ≡ Ok sc → Declared sc
   unfolding scope_at
   declared p {sc} q = go (subst (ParametersMeet tree text f s s₁) q p)
     where
@@ -313,7 +314,7 @@ module _ (tree text : List ℕ) (f : ℕ) (s s₁ : List ℕ) where
       go : ParametersMeet tree text f s s₁ (Ok sc) → Declared sc
       go (ParametersMeet.done asked ready inner function only bytes) = record { asked = asked; ready = ready; no_loop = inner; function = function; names = count asked }
 
-  not_declared : {a : Answer Scope} → ParametersMeet tree text f s s₁ a → {x : ConvertError} → a ≡ Err x
+  not_declared : {a : OrRefused Scope} → ParametersMeet tree text f s s₁ a → {x : ConvertError} → a ≡ Err x
       → with_params (function_of tree text f).params 0 (empty_in tree text f) ≡ err x.kind x.place
   unfolding refusal
   not_declared p {x} q = go (subst (ParametersMeet tree text f s s₁) q p)
@@ -439,7 +440,7 @@ module _ {tree text l s : List ℕ} {f : ℕ} {k : Counters} (keyed : Keyed tree
   unfolding function_records
   vars-room = record { room = room; affords = omega (arith, h.tables, room) }
 
-  module _ {b : Bool} (eb : b ≡ is_some (function_of tree text f).body) (q : not b ≡ false) {s₁ : List ℕ} {a : Answer Scope} (p : ParametersMeet tree text f s s₁ a) where
+  module _ {b : Bool} (eb : b ≡ is_some (function_of tree text f).body) (q : not b ≡ false) {s₁ : List ℕ} {a : OrRefused Scope} (p : ParametersMeet tree text f s s₁ a) where
     the_body : (function_of tree text f).body ≡ some (block_at tree text (word_of tree f E))
     the_body = body-there keyed.good at eb q
 

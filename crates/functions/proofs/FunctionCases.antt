@@ -31,7 +31,7 @@ use Rattle.keys.specs.Parts.{PartIs}
 use Rattle.keys.specs.Keys.{function_key, keys_below, function_places, Listed, KeySlots, key_entered, function_found}
 use Rattle.texts.specs.Texts.{original_at, text_digest_at, Numbered}
 use Rattle.functions.specs.Functions.{TurnMeets, listed_in, ListKeeps, AllMeet, done, refused}
-use Rattle.expressions.specs.Answers.{Answer, refusal, outcome_of, done_with}
+use Rattle.expressions.specs.Answers.{OrRefused, refusal, outcome_of, done_with}
 use Rattle.syntax.proofs.Records.{function_rec, function-return, return-is}
 use Rattle.functions.proofs.Listing.{listed-length, are-listed, listed-behind, still_numbered}
 use Rattle.texts.proofs.TextLaws.{numbered-stays}
@@ -65,13 +65,13 @@ found_nowhere None t = refl
 module _ (tree text s : List ℕ) (j f : ℕ) (good : Good tree text) (l : Listed tree s) (h : j < length (function_places tree))
     (is : (f ≡ word_at s (4 * j)) × FunctionAt tree f) where
   -- what the turn owes of its answer
-  abbrev Owed : Answer (Unit {0}) → Type 0
+  abbrev Owed : OrRefused (Unit {0}) → Type 0
   Owed r = TurnMeets tree text s j r
 
   start : add_function (function_of tree text (word_at s (4 * j))) (keys_below tree text j) ≡ add_function (function_of tree text f) (keys_below tree text j)
   start = ap (λ (x : ℕ). add_function (function_of tree text x) (keys_below tree text j)) (sym is.0)
 
-  turned_away : (k : ConvertErrorKind) (r : Answer (Unit {0})) → add_function (function_of tree text f) (keys_below tree text j) ≡ err k (function_of tree text f).rec_of
+  turned_away : (k : ConvertErrorKind) (r : OrRefused (Unit {0})) → add_function (function_of tree text f) (keys_below tree text j) ≡ err k (function_of tree text f).rec_of
       → r ≡ Err (record { kind = k; place = f }) → Owed r
   unfolding done_with refusal
   turned_away k r e q = start ∙ e ∙ rw (function_rec tree text good f is.1, q)
@@ -91,10 +91,10 @@ module _ (tree text s : List ℕ) (j f : ℕ) (good : Good tree text) (l : Liste
     ascii : (b : Bool) → a ≡ b → is_ascii (function_of tree text f).name ≡ b
     ascii b q = ap is_ascii (sym named.is) ∙ sym ea ∙ q
 
-    pub is_latin : m ≡ true → a ≡ true → (r : Answer (Unit {0})) → r ≡ Err (record { kind = LatinCharInNonLibCFunction; place = f }) → Owed r
+    pub is_latin : m ≡ true → a ≡ true → (r : OrRefused (Unit {0})) → r ≡ Err (record { kind = LatinCharInNonLibCFunction; place = f }) → Owed r
     is_latin q w r e = turned_away LatinCharInNonLibCFunction r (turn_latin (function_of tree text f) (keys_below tree text j) (mangled true q) (ascii true w)) e
 
-    pub is_foreign : m ≡ false → a ≡ false → (r : Answer (Unit {0})) → r ≡ Err (record { kind = ExternNotLatin; place = f }) → Owed r
+    pub is_foreign : m ≡ false → a ≡ false → (r : OrRefused (Unit {0})) → r ≡ Err (record { kind = ExternNotLatin; place = f }) → Owed r
     is_foreign q w r e = turned_away ExternNotLatin r (turn_foreign (function_of tree text f) (keys_below tree text j) (mangled false q) (ascii false w)) e
 
     -- the function that is entered with its key
@@ -103,7 +103,7 @@ module _ (tree text s : List ℕ) (j f : ℕ) (good : Good tree text) (l : Liste
       long-is : m ≡ true → function_found tree text o ≡ get_function (function_of tree text f).mangled_name (keys_below tree text j)
       long-is q = eo ∙ ap (λ (t : Text). get_function t (keys_below tree text j)) (key_mangled (function_of tree text f) (mangled true q))
 
-      pub signature_taken : m ≡ true → a ≡ false → is_some o ≡ true → (r : Answer (Unit {0}))
+      pub signature_taken : m ≡ true → a ≡ false → is_some o ≡ true → (r : OrRefused (Unit {0}))
           → r ≡ Err (record { kind = SameSignature; place = f }) → Owed r
       signature_taken q w t r e =
           let g = found_there o t in
@@ -121,7 +121,7 @@ module _ (tree text s : List ℕ) (j f : ℕ) (good : Good tree text) (l : Liste
       short-is : m ≡ false → function_found tree text o ≡ get_function (function_of tree text f).name (keys_below tree text j)
       short-is q = eo ∙ ap (λ (t : Text). get_function t (keys_below tree text j)) (key_plain (function_of tree text f) (mangled false q))
 
-      pub symbol_taken : m ≡ false → a ≡ true → is_some o ≡ true → (r : Answer (Unit {0}))
+      pub symbol_taken : m ≡ false → a ≡ true → is_some o ≡ true → (r : OrRefused (Unit {0}))
           → r ≡ Err (record { kind = SameSymbol; place = f }) → Owed r
       symbol_taken q w t r e =
           let g = found_there o t in
@@ -164,7 +164,7 @@ module _ (tree text : List ℕ) (o : StdOption ℕ) (needs : Bool) (e : function
     unfolding main_checked pick outcome_of
     main_fine w = found (some (function_of tree text g)) (found_at tree text o (find_main (program tree text).functions) e g q) ∙ rw (sym eb ∙ w)
 
-    pub main_other : b ≡ false → Good tree text → FunctionAt tree g → (r : Answer (Unit {0})) → r ≡ Err (record { kind = MainNotInteger; place = g })
+    pub main_other : b ≡ false → Good tree text → FunctionAt tree g → (r : OrRefused (Unit {0})) → r ≡ Err (record { kind = MainNotInteger; place = g })
         → check_main (program tree text) needs ≡ outcome_of r
     unfolding main_checked pick outcome_of refusal
     main_other w good at r er =
@@ -172,7 +172,7 @@ module _ (tree text : List ℕ) (o : StdOption ℕ) (needs : Bool) (e : function
         ∙ rw (sym eb ∙ w, function_rec tree text good g at, er)
 
   module _ (q : o ≡ None) where
-    pub main_missing : needs ≡ true → (r : Answer (Unit {0})) → r ≡ Err (record { kind = NoMain; place = none }) → check_main (program tree text) needs ≡ outcome_of r
+    pub main_missing : needs ≡ true → (r : OrRefused (Unit {0})) → r ≡ Err (record { kind = NoMain; place = none }) → check_main (program tree text) needs ≡ outcome_of r
     unfolding main_checked pick outcome_of refusal
     main_missing w r er = found nothing (found_nothing tree text o (find_main (program tree text).functions) e q) ∙ rw (w, er)
 
@@ -262,7 +262,7 @@ keeps_on : {tree s s₁ s₂ : List ℕ} → ListKeeps tree s s₁ → ListKeeps
 keeps_on a b = record { long = b.long ∙ a.long; between = λ i h k. b.between i h k ∙ a.between i h k; behind = λ i h. b.behind i h ∙ a.behind i h }
 
 module _ (tree text s₀ : List ℕ) (count : ℕ) (good : Good tree text) where
-  module _ (s : List ℕ) (j : ℕ) (w : Entered tree text s₀ s count j) (h : j < count) (o : Answer (Unit {0})) (e : TurnMeets tree text s j o) where
+  module _ (s : List ℕ) (j : ℕ) (w : Entered tree text s₀ s count j) (h : j < count) (o : OrRefused (Unit {0})) (e : TurnMeets tree text s j o) where
     inside-list : j < length (function_places tree)
     inside-list = omega (arith, w.counted)
 

@@ -28,7 +28,7 @@ use Rattle.scope.specs.declared.Scope.{Scope}
 use Rattle.scope.specs.Open.{variables_at, loop_number, scope_at, variable_named, NameAfforded, Added, Taken, DeclareMeets}
 use Rattle.scope.proofs.ScopeLaws.{scope-more}
 use Rattle.std.specs.Prelude.{Option, Some, None, Ok, Err, ok_or}
-use Rattle.expressions.specs.Answers.{Answer}
+use Rattle.expressions.specs.Answers.{OrRefused}
 use Rattle.syntax.specs.Places.{TypeAt, ParamsAt, function_of, params_at}
 use Rattle.texts.specs.Texts.{has_text}
 use Rattle.keys.specs.Keys.{Keyed}
@@ -69,15 +69,15 @@ only-stays p = record {
   told = λ j h. absurd (omega (arith, h));
 }
 
-pub names-only : {tree text s s' : List ℕ} {f : ℕ} {a : Answer Scope} → ParametersMeet tree text f s s' a → NamesOnly tree s s'
+pub names-only : {tree text s s' : List ℕ} {f : ℕ} {a : OrRefused Scope} → ParametersMeet tree text f s s' a → NamesOnly tree s s'
 names-only (ParametersMeet.done asked ready inner function only bytes) = only
 names-only (ParametersMeet.refused asked only bytes) = only
 
-one_only : {tree text s s' : List ℕ} {sc : Scope} {p : Param} {a : Answer Scope} → OneMore tree text sc p s s' a → NamesOnly tree s s'
+one_only : {tree text s s' : List ℕ} {sc : Scope} {p : Param} {a : OrRefused Scope} → OneMore tree text sc p s s' a → NamesOnly tree s s'
 one_only (OneMore.done r is free adds only wrote) = only
 one_only {tree = tree} {s = s} (OneMore.refused e is same) = subst (NamesOnly tree s) (sym same) (only_refl tree s)
 
-pub one_more-turns : {tree text s s' : List ℕ} {sc : Scope} {p : Param} {a : Answer Scope} → OneMore tree text sc p s s' a → TurnsStay tree s s'
+pub one_more-turns : {tree text s s' : List ℕ} {sc : Scope} {p : Param} {a : OrRefused Scope} → OneMore tree text sc p s s' a → TurnsStay tree s s'
 one_more-turns m = only-turns (one_only m)
 
 -- one more behind the others

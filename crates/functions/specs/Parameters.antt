@@ -18,7 +18,7 @@ use Rattle.scope.specs.declared.Scope.{Scope}
 use Rattle.scope.specs.Open.{more, open_name_at, name_slot_at, scope_at}
 use Rattle.syntax.specs.Places.{function_of}
 use Rattle.expressions.specs.Slots.{original_of, original_word, Ready}
-use Rattle.expressions.specs.Answers.{Answer, refusal}
+use Rattle.expressions.specs.Answers.{OrRefused, refusal}
 
 -- the parameter in a cell
 abbrev pub parameter_in : List ℕ → List ℕ → ℕ → Param
@@ -71,7 +71,7 @@ pub record NamesOnly (tree s s' : List ℕ) : Type 0 where
   pub behind : (i : ℕ) → end_of name_slots * records tree ≤ i → byte_at s' i ≡ byte_at s i
 
 -- one parameter more, or its name is taken
-pub data OneMore (tree text : List ℕ) (sc : Scope) (p : Param) (s s' : List ℕ) : Answer Scope → Type 0 where
+pub data OneMore (tree text : List ℕ) (sc : Scope) (p : Param) (s s' : List ℕ) : OrRefused Scope → Type 0 where
   done : {sc' : Scope} → Ready tree text s' sc' → sc' ≡ more sc
       → is_some (find_variable p.name (scope_at tree text s sc)) ≡ false
       → scope_at tree text s' sc' ≡ with_variable (parameter_of p sc.names) (scope_at tree text s sc)
@@ -81,7 +81,7 @@ pub data OneMore (tree text : List ℕ) (sc : Scope) (p : Param) (s s' : List �
       → s' ≡ s → OneMore tree text sc p s s' (Err e)
 
 -- the scope of function f's body; only the entries and their slots are written: of all parameters or, where a name is taken, of those before
-pub data ParametersMeet (tree text : List ℕ) (f : ℕ) (s s' : List ℕ) : Answer Scope → Type 0 where
+pub data ParametersMeet (tree text : List ℕ) (f : ℕ) (s s' : List ℕ) : OrRefused Scope → Type 0 where
   done : {sc : Scope} → with_params (function_of tree text f).params 0 (empty_in tree text f) ≡ ok (scope_at tree text s' sc)
       → Ready tree text s' sc → sc.inner ≡ Words.none → sc.function ≡ f
       → NamesOnly tree s s' → s' ≡ parameters_added tree s (function_of tree text f).params 0 s → ParametersMeet tree text f s s' (Ok sc)

@@ -16,9 +16,9 @@ use Rattle.conversion.specs.Written.{bytes_of, word, bool_number, encode_instr, 
 use Rattle.conversion.proofs.Bytes.{instr_length, float_length}
 use Rattle.ir.specs.declared.structs.Counters.{Counters}
 use Rattle.ir.specs.declared.structs.Fields.{Fields}
-use Rattle.ir.specs.declared.structs.NewVariable.{NewVariable}
-use Rattle.ir.specs.declared.structs.LabelNumber.{LabelNumber}
-use Rattle.ir.specs.declared.pool.PoolNumber.{PoolNumber}
+use Rattle.ir.specs.declared.structs.Label.{Label}
+use Rattle.ir.specs.declared.structs.VarId.{VarId}
+use Rattle.ir.specs.declared.structs.WithCounters.{WithCounters}
 use Rattle.ir.specs.Instructions.{var_of, field_bytes}
 use Rattle.ir.specs.Amounts.{Amount, Spent}
 use Rattle.ir.specs.Arena.{NumberedTexts, TablesSoFar, HasSlot, label_slot, float_bucket, float_entry_bucket, Holds, Room}
@@ -55,17 +55,17 @@ emit-done i f k l l' room small ef e =
 abbrev variable : ℕ → ℕ → Ir.VarId
 variable i y = record { id = i; ty = y }
 
-pub var_done : (y : ℕ) (r : NewVariable) (k : Counters) (l l' : List ℕ) → Room k l → k.variables < 3 * k.records
-    → r.var.0 ≡ k.variables - k.variables_before → r.var.1 ≡ y → r.counters ≡ more_variables k → l' ≡ splice l (128 * k.records + 4 * k.variables) (word y)
+pub var_done : (y : ℕ) (r : WithCounters VarId) (k : Counters) (l l' : List ℕ) → Room k l → k.variables < 3 * k.records
+    → r.value.0 ≡ k.variables - k.variables_before → r.value.1 ≡ y → r.counters ≡ more_variables k → l' ≡ splice l (128 * k.records + 4 * k.variables) (word y)
     → AddsVar y k l r l'
 unfolding Stands new_var encode_var word bytes_of
 var_done y r k l l' room small e₀ e₁ ek e =
     let len : length l' ≡ length l = written-length l (128 * k.records + 4 * k.variables) (encode_var y) l' e (omega (arith, room.arena)) in record {
-      next = subst (λ (k' : Counters). Next (new_var y) k l (var_of r.var) k' l') (sym ek) (record {
+      next = subst (λ (k' : Counters). Next (new_var y) k l (var_of r.value) k' l') (sym ek) (record {
         room = omega (arith, room, len);
         records = refl;
         stands = λ texts t h.
-            let count : r.var.0 ≡ length t.state.vars = omega (arith, e₀, h.variables_hold.count, h.before.variables_before, length-append (all_vars t.done) t.state.vars) in
+            let count : r.value.0 ≡ length t.state.vars = omega (arith, e₀, h.variables_hold.count, h.before.variables_before, length-append (all_vars t.done) t.state.vars) in
             (ap₂ variable count e₁, var_holds texts t k l room h y l' small e);
       });
       typed = e₁;
@@ -96,22 +96,22 @@ module _ (kind opener : ℕ) (k : Counters) (l : List ℕ) (room : Room k l) (at
   slot_has : i ≡ word_at l (label_slot k.records x)
   slot_has = ei ∙ ap (word_at l) ea
 
-  pub label_found : (b : Bool) (r : LabelNumber) → b ≡ label_is l k kind opener i → b ≡ true → r.label.0 ≡ i → r.counters ≡ k → NumbersLabel kind opener k l r l
+  pub label_found : (b : Bool) (r : WithCounters Label) → b ≡ label_is l k kind opener i → b ≡ true → r.value.0 ≡ i → r.counters ≡ k → NumbersLabel kind opener k l r l
   unfolding label_id
   label_found b r eb q e ek = record {
-    next = subst (λ (k' : Counters). Next (label_id x) k l r.label.0 k' l) (sym ek) (record {
+    next = subst (λ (k' : Counters). Next (label_id x) k l r.value.0 k' l) (sym ek) (record {
       room = room;
       records = refl;
       stands = λ texts t h. found texts t k l room h (position (same_label x) t.state.labels) (with_label x t.state)
-          (length t.state.labels) i r.label.0 (label_here texts t k l h kind opener i slot_has (sym eb ∙ q)) e;
+          (length t.state.labels) i r.value.0 (label_here texts t k l h kind opener i slot_has (sym eb ∙ q)) e;
     });
     spent = same-spent (omega arith) ek;
     entry = inr (record { counts = ek; same = refl });
   }
 
-  pub label_new : (b : Bool) (l' : List ℕ) (r : LabelNumber) → k.labels < 3 * k.records → HasSlot k.records x
+  pub label_new : (b : Bool) (l' : List ℕ) (r : WithCounters Label) → k.labels < 3 * k.records → HasSlot k.records x
       → b ≡ label_is l k kind opener i → b ≡ false
-      → (r.label.0 ≡ k.labels - k.labels_before)
+      → (r.value.0 ≡ k.labels - k.labels_before)
       × WroteTwo l (label_slot k.records x) (word (k.labels - k.labels_before)) (140 * k.records + 8 * k.labels) (encode_label x) (more_labels k) r.counters l'
       → NumbersLabel kind opener k l r l'
   unfolding label_id encode_label word bytes_of
@@ -125,13 +125,13 @@ module _ (kind opener : ℕ) (k : Counters) (l : List ℕ) (room : Room k l) (at
       let first-long : length l₁ ≡ length l = written-length l (label_slot k.records x) (word n) l₁ refl fit in
       let same : length l' ≡ length l = written-length l₁ at₂ vs l' e (omega (arith, room.arena, first-long)) ∙ first-long in
       let room₁ : Room k l₁ = omega (arith, room, first-long) in record {
-        next = subst (λ (k' : Counters). Next (label_id x) k l r.label.0 k' l') (sym m.1.counts) (record {
+        next = subst (λ (k' : Counters). Next (label_id x) k l r.value.0 k' l') (sym m.1.counts) (record {
           room = omega (arith, room, same);
           records = refl;
           stands = λ texts t h.
               let new : position (same_label x) t.state.labels ≡ none = label_nowhere texts t k l h kind opener i slot_has (sym eb ∙ q) in
               let count : n ≡ length t.state.labels = omega (arith, h.labels_hold.count, h.before.labels_before, length-append (all_labels t.done) t.state.labels) in
-              added texts t (more_labels k) l' (position (same_label x) t.state.labels) (with_label x t.state) (length t.state.labels) r.label.0 new (m.0 ∙ count)
+              added texts t (more_labels k) l' (position (same_label x) t.state.labels) (with_label x t.state) (length t.state.labels) r.value.0 new (m.0 ∙ count)
               (label_holds texts t k l₁ room₁ (slot-holds texts t k l room h x n l₁ slot new refl) x l' slot
               (written-word n l l₁ (label_slot k.records x) refl fit (omega (arith, room)) ∙ count) small e);
         });
@@ -142,23 +142,23 @@ module _ (kind opener : ℕ) (k : Counters) (l : List ℕ) (room : Room k l) (at
 -- ---- strings, as the code meets them: whether the string at the slot of the number o has a text of that number
 
 module _ (o offset len i : ℕ) (k : Counters) (l : List ℕ) (room : Room k l) (inside : o < k.records) (ei : i ≡ word_at l (280 * k.records + 4 * o)) where
-  pub string_at : (b : Bool) (r : PoolNumber) → b ≡ string_is l k o i → b ≡ true → r.number ≡ i → r.counters ≡ k → NumbersString o offset len k l r l
+  pub string_at : (b : Bool) (r : WithCounters ℕ) → b ≡ string_is l k o i → b ≡ true → r.value ≡ i → r.counters ≡ k → NumbersString o offset len k l r l
   unfolding string_id
   string_at b r eb q e ek = record {
-    next = λ texts apart own. subst (λ (k' : Counters). NextIn texts (string_id (entry_of_string texts.text offset len)) k l r.number k' l) (sym ek) (record {
+    next = λ texts apart own. subst (λ (k' : Counters). NextIn texts (string_id (entry_of_string texts.text offset len)) k l r.value k' l) (sym ek) (record {
       room = room;
       records = refl;
       stands = λ t h.
           let x : StringEntry = entry_of_string texts.text offset len in
-          found texts t k l room h (position (same_string x) t.state.strings) (with_string x t.state) (length t.state.strings) i r.number
+          found texts t k l room h (position (same_string x) t.state.strings) (with_string x t.state) (length t.state.strings) i r.value
           (string_found k h.string_slots_hold h.strings_hold.count x o i own ei apart inside (sym eb ∙ q)) e;
     });
     spent = same-spent (omega arith) ek;
     entry = inr (record { counts = ek; same = refl });
   }
 
-  pub string_nowhere : (b : Bool) (l' : List ℕ) (r : PoolNumber) → k.strings < k.records → offset < 2 ^ 32 → len < 2 ^ 32 → b ≡ string_is l k o i → b ≡ false
-      → (r.number ≡ k.strings) × StringAdded o offset len k l r.counters l' → NumbersString o offset len k l r l'
+  pub string_nowhere : (b : Bool) (l' : List ℕ) (r : WithCounters ℕ) → k.strings < k.records → offset < 2 ^ 32 → len < 2 ^ 32 → b ≡ string_is l k o i → b ≡ false
+      → (r.value ≡ k.strings) × StringAdded o offset len k l r.counters l' → NumbersString o offset len k l r l'
   unfolding string_id encode_string word bytes_of
   string_nowhere b l' r small ho hn eb q m =
       let n : ℕ = k.records in
@@ -167,13 +167,13 @@ module _ (o offset len i : ℕ) (k : Counters) (l : List ℕ) (room : Room k l) 
       let long : length l₁ ≡ length l = written-length l at (word offset ++ word len) l₁ refl (omega (arith, room.arena)) in
       let linked : LinkWritten (236 * n) (280 * n) k.strings o o l₁ l' = record { wrote = m.1.wrote; order = omega arith; fit = omega (arith, long, room.arena) } in record {
         next = λ texts apart own.
-            subst (λ (k' : Counters). NextIn texts (string_id (entry_of_string texts.text offset len)) k l r.number k' l') (sym m.1.counts) (record {
+            subst (λ (k' : Counters). NextIn texts (string_id (entry_of_string texts.text offset len)) k l r.value k' l') (sym m.1.counts) (record {
               room = omega (arith, room, long, linked-length linked);
               records = refl;
               stands = λ t h.
                   let x : StringEntry = entry_of_string texts.text offset len in
                   let count : k.strings ≡ length t.state.strings = h.strings_hold.count in
-                  added texts t (more_strings k) l' (position (same_string x) t.state.strings) (with_string x t.state) (length t.state.strings) r.number
+                  added texts t (more_strings k) l' (position (same_string x) t.state.strings) (with_string x t.state) (length t.state.strings) r.value
                   (string_missing k h.string_slots_hold count x o i own ei (sym eb ∙ q)) (m.0 ∙ count)
                   (string_holds texts t k l room h x o l₁ l' (record { offset = ho; len = hn; stands = refl }) small inside own
                   (number_unused k h.string_slots_hold count x o i own ei (sym eb ∙ q)) refl linked);
@@ -209,21 +209,21 @@ module _ (f e : FloatEntry) (same : e ≡ f) (b c d p v : ℕ) (k : Counters) (l
       (subst (λ (u : ℕ). Walks (λ j. word_at l (268 * k.records + 4 * j)) (float_words_at l (204 * k.records) (e.bits % 4294967296) (e.bits / 4294967296) (bool_number e.short)) u a) float_head-is
       (rw (← eb, ← ec.0, ← ed) es))
 
-  pub float_at : (r : PoolNumber) (i : ℕ) → a ≡ Some i → r.number ≡ i → r.counters ≡ k → NumbersFloat f k l r l
+  pub float_at : (r : WithCounters ℕ) (i : ℕ) → a ≡ Some i → r.value ≡ i → r.counters ≡ k → NumbersFloat f k l r l
   unfolding float_id
   float_at r i q ex ek = subst (λ (g : FloatEntry). NumbersFloat g k l r l) same (record {
-    next = subst (λ (k' : Counters). Next (float_id e) k l r.number k' l) (sym ek) (record {
+    next = subst (λ (k' : Counters). Next (float_id e) k l r.value k' l) (sym ek) (record {
       room = room;
       records = refl;
-      stands = λ texts t h. found texts t k l room h (position (same_float e) t.state.floats) (with_float e t.state) (length t.state.floats) i r.number
+      stands = λ texts t h. found texts t k l room h (position (same_float e) t.state.floats) (with_float e t.state) (length t.state.floats) i r.value
           (float_here texts t k l h e i (float_walked (Some i) q)) ex;
     });
     spent = same-spent (omega arith) ek;
     entry = inr (record { counts = ek; same = refl });
   })
 
-  pub float_nowhere : (l' : List ℕ) (r : PoolNumber) → k.floats < 2 * k.records → a ≡ None
-      → (r.number ≡ k.floats)
+  pub float_nowhere : (l' : List ℕ) (r : WithCounters ℕ) → k.floats < 2 * k.records → a ≡ None
+      → (r.value ≡ k.floats)
       × WroteThree l (204 * k.records + 16 * k.floats) (word b ++ word c ++ word d ++ word 0) (268 * k.records + 4 * k.floats) (word v)
       (276 * k.records + 4 * p) (word k.floats) (more_floats k) r.counters l'
       → NumbersFloat f k l r l'
@@ -243,12 +243,12 @@ module _ (f e : FloatEntry) (same : e ≡ f) (b c d p v : ℕ) (k : Counters) (l
       let long : length l₁ ≡ length l = written-length l at (encode_float e) l₁ refl (omega (arith, float_length e, room.arena)) in
       let linked : LinkWritten (268 * n) (276 * n) k.floats bucket head l₁ l' = record { wrote = w; order = omega arith; fit = omega (arith, inside, long, room.arena) } in
       subst (λ (g : FloatEntry). NumbersFloat g k l r l') same (record {
-        next = subst (λ (k' : Counters). Next (float_id e) k l r.number k' l') (sym m.1.counts) (record {
+        next = subst (λ (k' : Counters). Next (float_id e) k l r.value k' l') (sym m.1.counts) (record {
           room = omega (arith, room, long, linked-length linked);
           records = refl;
           stands = λ texts t h.
               let new : position (same_float e) t.state.floats ≡ none = float_gone texts t k l h e (float_walked None q) in
-              added texts t (more_floats k) l' (position (same_float e) t.state.floats) (with_float e t.state) (length t.state.floats) r.number new (m.0 ∙ h.floats_hold.count)
+              added texts t (more_floats k) l' (position (same_float e) t.state.floats) (with_float e t.state) (length t.state.floats) r.value new (m.0 ∙ h.floats_hold.count)
               (float_holds texts t k l room h e head l₁ l' (record { bits = omega (arith, ec.0, ec.1) }) small inside (float_start texts t k l h bucket) new refl linked);
         });
         spent = same-spent (omega arith) m.1.counts;

@@ -1,14 +1,13 @@
--- Cutting out: what is there once the rest is zero, that a part alone is what is left, and that the buffers then hold the tables.
+-- Cutting out: what is there once the rest is zero, and that the buffers then hold the tables.
 -- By the laws of parts, and by what the arena holds. Assumes nothing.
 use mathlib.Core.Path.{◌≡◌, sym, ap, ap₂, ◌∙◌}
 use mathlib.Core.List.{List, [], ◌++◌, append-nil}
 use Prim.Native.Nat.{ℕ, ◌+◌, ◌-◌, ◌*◌, ◌≤◌}
 use native.Mathlib.Omega.{arith}
 use borrow.Rule.Slice.PartMut.{put_mid}
-use lib.ListN.{length, take, drop, replicate, length-append, length-drop}
-use lib.Seq.{length-take-le, take_at, drop-drop, drop-length}
+use lib.ListN.{length, take, drop, replicate, length-drop}
+use lib.Seq.{length-take-le, drop-drop, drop-length}
 use Rattle.laws.specs.Splice.{part, filled}
-use Rattle.laws.proofs.Splices.{filled-length}
 use Rattle.conversion.specs.Ir.{IrProgram}
 use Rattle.conversion.specs.Written.{encode_all, encode_instr, encode_var, encode_label, encode_functions, all_code, all_vars, all_labels, tables_of}
 use Rattle.conversion.proofs.Bytes.{functions-length}
@@ -30,20 +29,6 @@ clear_is d ys at h e =
     ap₂ (λ (x y : List ℕ). take at d ++ (x ++ y)) (e ∙ ap (λ (j : ℕ). replicate {A = ℕ} j 0) (m ∙ ap (λ (j : ℕ). length d - j) (sym n)))
     (drop-drop (length d - at) at d ∙ ap (λ (j : ℕ). drop j d) z ∙ drop-length d)
     ∙ ap (λ (r : List ℕ). take at d ++ r) (append-nil _)
-
--- ---- both
-
-part_length : (l : List ℕ) (from len : ℕ) → from + len ≤ length l → length (part l from len) ≡ len
-part_length l from len h = length-take-le len (drop from l) (rw length-drop (omega arith))
-
-pub cut_done : (l d d₁ d₂ : List ℕ) (from len : ℕ) → from + len ≤ length l → len ≤ length d → d₁ ≡ part l from len ++ drop len d
-    → d₂ ≡ filled (part d₁ 0 len) (length d₁) → d₂ ≡ filled (part l from len) (length d₂)
-cut_done l d d₁ d₂ from len hl hd e₁ e₂ =
-    let n : length (part l from len) ≡ len = part_length l from len hl in
-    let p : take len d₁ ≡ part l from len = ap (take len) e₁ ∙ take_at (part l from len) (drop len d) len n in
-    let m : length d₁ ≡ length d = ap length e₁ ∙ length-append (part l from len) (drop len d) ∙ rw (n, length-drop) (omega arith) in
-    let k : length d₂ ≡ length d₁ = ap length e₂ ∙ filled-length (take len d₁) (length d₁) (omega (arith, ap length p, n, m)) in
-    e₂ ∙ ap₂ filled p (sym k)
 
 -- ---- what the buffers then hold
 

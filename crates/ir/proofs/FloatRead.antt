@@ -13,7 +13,7 @@ use Rattle.records.specs.Words.{word_at}
 use Rattle.conversion.specs.Ir.{FloatEntry, position, numbered, same_float, float_id, float_bits}
 use Rattle.conversion.specs.Written.{bool_number}
 use Rattle.ir.specs.declared.structs.Counters.{Counters}
-use Rattle.ir.specs.declared.pool.PoolNumber.{PoolNumber}
+use Rattle.ir.specs.declared.structs.WithCounters.{WithCounters}
 use Rattle.ir.specs.Arena.{NumberedTexts, TablesSoFar, no_float, Holds, Room}
 use Rattle.ir.specs.Floats.{bits_of_float, entry, entry_of_float}
 use Rattle.ir.specs.declared.floats.FloatEntry as Code
@@ -89,20 +89,20 @@ module _ (e : FloatEntry) (texts : NumberedTexts) (t : TablesSoFar) (x : ℕ) (k
       (floats_at texts (grown t [] (with_float e t.state)) k' l' h.1 (length fs) (rw length-append (omega arith))))
 
 -- the entry of the number that it gives is the float that was asked for
-pub float_made : (e : FloatEntry) (texts : NumberedTexts) (t : TablesSoFar) (k : Counters) (l : List ℕ) (r : PoolNumber) (l' : List ℕ) → Holds texts t k l
-    → NumbersFloat e k l r l' → FloatAt l' (204 * k.records + 16 * r.number) e
+pub float_made : (e : FloatEntry) (texts : NumberedTexts) (t : TablesSoFar) (k : Counters) (l : List ℕ) (r : WithCounters ℕ) (l' : List ℕ) → Holds texts t k l
+    → NumbersFloat e k l r l' → FloatAt l' (204 * k.records + 16 * r.value) e
 unfolding float_id
 float_made e texts t k l r l' h m =
-    subst (λ (n : ℕ). FloatAt l' (204 * n + 16 * r.number) e) m.next.records
-    (numbered-at e texts t r.number r.counters l' (position (same_float e) t.state.floats) refl (m.next.stands texts t h))
+    subst (λ (n : ℕ). FloatAt l' (204 * n + 16 * r.value) e) m.next.records
+    (numbered-at e texts t r.value r.counters l' (position (same_float e) t.state.floats) refl (m.next.stands texts t h))
 
 -- a number: the bits of its f64; a NaN: the bits that it came with
-module _ (texts : NumberedTexts) (t : TablesSoFar) (k : Counters) (l : List ℕ) (r : PoolNumber) (l' : List ℕ) (h : Holds texts t k l) where
+module _ (texts : NumberedTexts) (t : TablesSoFar) (k : Counters) (l : List ℕ) (r : WithCounters ℕ) (l' : List ℕ) (h : Holds texts t k l) where
   pub number-made : (f : Code.FloatEntry) → NumbersFloat (entry_of_float (Number f)) k l r l'
-      → FloatAt l' (204 * k.records + 16 * r.number) (entry (bits_of_float f.value) f.short)
+      → FloatAt l' (204 * k.records + 16 * r.value) (entry (bits_of_float f.value) f.short)
   unfolding entry_of_float
   number-made f m = float_made (entry_of_float (Number f)) texts t k l r l' h m
 
-  pub nan_made : (b : ℕ) (short : Bool) → NumbersFloat (entry_of_float (Nan b short)) k l r l' → FloatAt l' (204 * k.records + 16 * r.number) (entry b short)
+  pub nan_made : (b : ℕ) (short : Bool) → NumbersFloat (entry_of_float (Nan b short)) k l r l' → FloatAt l' (204 * k.records + 16 * r.value) (entry b short)
   unfolding entry_of_float
   nan_made b short m = float_made (entry_of_float (Nan b short)) texts t k l r l' h m

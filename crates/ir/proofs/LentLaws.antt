@@ -13,13 +13,13 @@ use Rattle.laws.specs.Splice.{splice}
 use Rattle.ir.specs.declared.structs.Counters.{Counters}
 use Rattle.conversion.specs.Ir as Ir
 use Rattle.ir.specs.declared.structs.Fields.{Fields}
-use Rattle.ir.specs.declared.structs.NewVariable.{NewVariable}
-use Rattle.ir.specs.declared.structs.LabelNumber.{LabelNumber}
-use Rattle.ir.specs.declared.pool.PoolNumber.{PoolNumber}
+use Rattle.ir.specs.declared.structs.Label.{Label}
+use Rattle.ir.specs.declared.structs.VarId.{VarId}
+use Rattle.ir.specs.declared.structs.WithCounters.{WithCounters}
 use Rattle.ir.specs.Instructions.{field_bytes}
 use Rattle.ir.specs.Arena.{Room}
 use Rattle.ir.specs.Counted.{labels_before_word, counter_words, counted}
-use Rattle.ir.specs.Steps.{more_labels, more_strings, more_floats, WroteTwo, WroteThree, TablesStay, Emits, AddsVar, NumbersLabel, NumbersString, NumbersFloat, Closes, Next}
+use Rattle.ir.specs.Steps.{more_labels, more_strings, more_floats, WroteTwo, WroteThree, TablesStay, Emits, AddsVar, NumbersLabel, NumbersString, NumbersFloat, Closes}
 use Rattle.ir.proofs.Answers.{emit-done}
 
 -- ---- all ten words are there
@@ -64,13 +64,6 @@ words_with k v = record { records = get_or k 0 0; instructions = get_or k 1 0; v
 pub counted-are : (k : List ℕ) → counter_words ≤ length k → words_with k (get_or k 9 0) ≡ counted k
 unfolding counted
 counted-are k h = ap (words_with k) (last_word k h)
-
--- what is known of one is known of its equal
-pub room-read : {c d : Counters} {l : List ℕ} → c ≡ d → Room d l → Room c l
-room-read {l = l} e room = subst (λ (x : Counters). Room x l) (sym e) room
-
-pub next-read : {A : Type 0} {m : M A} {c d : Counters} {l : List ℕ} {a : A} → c ≡ d → Next m c l a c l → Next m d l a d l
-next-read {m = m} {l = l} {a = a} e h = subst (λ (x : Counters). Next m x l a x l) e h
 
 -- ---- a store to one word
 
@@ -127,41 +120,41 @@ emit-lent i f k l l' room small ef e =
 
 -- what is told of the counters c, which were read off the words
 module _ (k l l' : List ℕ) (room : Room (counted k) l) (c : Counters) (read : c ≡ counted k) where
-  pub var_lent : (y : ℕ) (r : NewVariable) → AddsVar y c l r l' → AddsVar y (counted k) l (record { var = r.var; counters = counted (set k 2 r.counters.variables) }) l'
+  pub var_lent : (y : ℕ) (r : WithCounters VarId) → AddsVar y c l r l' → AddsVar y (counted k) l (record { value = r.value; counters = counted (set k 2 r.counters.variables) }) l'
   var_lent y r h =
       let g : AddsVar y (counted k) l r l' = subst (λ (x : Counters). AddsVar y x l r l') read h in
       let same : with_variables (counted k) r.counters.variables ≡ r.counters = subst (λ (x : Counters). with_variables (counted k) x.variables ≡ x) (sym g.entry.counts) refl in
-      subst (λ (x : Counters). AddsVar y (counted k) l (record { var = r.var; counters = x }) l') (sym (set-variables k _ (ten k l room) ∙ same)) g
+      subst (λ (x : Counters). AddsVar y (counted k) l (record { value = r.value; counters = x }) l') (sym (set-variables k _ (ten k l room) ∙ same)) g
 
   same-labels : {i j : ℕ} {vs ws : List ℕ} (k' : Counters) → WroteTwo l i vs j ws (more_labels (counted k)) k' l' ⊎ TablesStay (counted k) l k' l' → with_labels (counted k) k'.labels ≡ k'
   same-labels k' (inl w) = subst (λ (x : Counters). with_labels (counted k) x.labels ≡ x) (sym w.counts) refl
   same-labels k' (inr w) = subst (λ (x : Counters). with_labels (counted k) x.labels ≡ x) (sym w.counts) refl
 
-  pub label_lent : (kind opener : ℕ) (r : LabelNumber) → NumbersLabel kind opener c l r l'
-      → NumbersLabel kind opener (counted k) l (record { label = r.label; counters = counted (set k 3 r.counters.labels) }) l'
+  pub label_lent : (kind opener : ℕ) (r : WithCounters Label) → NumbersLabel kind opener c l r l'
+      → NumbersLabel kind opener (counted k) l (record { value = r.value; counters = counted (set k 3 r.counters.labels) }) l'
   label_lent kind opener r h =
       let g : NumbersLabel kind opener (counted k) l r l' = subst (λ (x : Counters). NumbersLabel kind opener x l r l') read h in
-      subst (λ (x : Counters). NumbersLabel kind opener (counted k) l (record { label = r.label; counters = x }) l') (sym (set-labels k _ (ten k l room) ∙ same-labels r.counters g.entry)) g
+      subst (λ (x : Counters). NumbersLabel kind opener (counted k) l (record { value = r.value; counters = x }) l') (sym (set-labels k _ (ten k l room) ∙ same-labels r.counters g.entry)) g
 
   same-strings : {i j p : ℕ} {vs ws us : List ℕ} (k' : Counters) → WroteThree l i vs j ws p us (more_strings (counted k)) k' l' ⊎ TablesStay (counted k) l k' l' → with_strings (counted k) k'.strings ≡ k'
   same-strings k' (inl w) = subst (λ (x : Counters). with_strings (counted k) x.strings ≡ x) (sym w.counts) refl
   same-strings k' (inr w) = subst (λ (x : Counters). with_strings (counted k) x.strings ≡ x) (sym w.counts) refl
 
-  pub string_lent : (o offset len : ℕ) (r : PoolNumber) → NumbersString o offset len c l r l'
-      → NumbersString o offset len (counted k) l (record { number = r.number; counters = counted (set k 5 r.counters.strings) }) l'
+  pub string_lent : (o offset len : ℕ) (r : WithCounters ℕ) → NumbersString o offset len c l r l'
+      → NumbersString o offset len (counted k) l (record { value = r.value; counters = counted (set k 5 r.counters.strings) }) l'
   string_lent o offset len r h =
       let g : NumbersString o offset len (counted k) l r l' = subst (λ (x : Counters). NumbersString o offset len x l r l') read h in
-      subst (λ (x : Counters). NumbersString o offset len (counted k) l (record { number = r.number; counters = x }) l') (sym (set-strings k _ (ten k l room) ∙ same-strings r.counters g.entry)) g
+      subst (λ (x : Counters). NumbersString o offset len (counted k) l (record { value = r.value; counters = x }) l') (sym (set-strings k _ (ten k l room) ∙ same-strings r.counters g.entry)) g
 
   same-floats : {i j p : ℕ} {vs ws us : List ℕ} (k' : Counters) → WroteThree l i vs j ws p us (more_floats (counted k)) k' l' ⊎ TablesStay (counted k) l k' l' → with_floats (counted k) k'.floats ≡ k'
   same-floats k' (inl w) = subst (λ (x : Counters). with_floats (counted k) x.floats ≡ x) (sym w.counts) refl
   same-floats k' (inr w) = subst (λ (x : Counters). with_floats (counted k) x.floats ≡ x) (sym w.counts) refl
 
-  pub float_lent : (s : FloatEntry) (r : PoolNumber) → NumbersFloat s c l r l'
-      → NumbersFloat s (counted k) l (record { number = r.number; counters = counted (set k 6 r.counters.floats) }) l'
+  pub float_lent : (s : FloatEntry) (r : WithCounters ℕ) → NumbersFloat s c l r l'
+      → NumbersFloat s (counted k) l (record { value = r.value; counters = counted (set k 6 r.counters.floats) }) l'
   float_lent s r h =
       let g : NumbersFloat s (counted k) l r l' = subst (λ (x : Counters). NumbersFloat s x l r l') read h in
-      subst (λ (x : Counters). NumbersFloat s (counted k) l (record { number = r.number; counters = x }) l') (sym (set-floats k _ (ten k l room) ∙ same-floats r.counters g.entry)) g
+      subst (λ (x : Counters). NumbersFloat s (counted k) l (record { value = r.value; counters = x }) l') (sym (set-floats k _ (ten k l room) ∙ same-floats r.counters g.entry)) g
 
   -- the four words that change where a function is done
   pub function-lent : (owner : ℕ) (body : Bool) (r : Counters) → Closes owner body c l r l'

@@ -20,10 +20,6 @@ use Rattle.ir.proofs.Entries.{written-length, written-word, has-before, table_be
 use Rattle.ir.proofs.EntryLinks.{buckets, links-grown}
 use Rattle.ir.proofs.LinkLaws.{Start}
 
--- the two writes, behind others
-pub then_linked : (l l₁ l₂ : List ℕ) (i : ℕ) (vs : List ℕ) (j : ℕ) (ws : List ℕ) → l₁ ≡ l → l₂ ≡ splice (splice l₁ i vs) j ws → l₂ ≡ splice (splice l i vs) j ws
-then_linked l l₁ l₂ i vs j ws e₁ e₂ = e₂ ∙ ap (λ (x : List ℕ). splice (splice x i vs) j ws) e₁
-
 -- entry m, of bucket b, is linked to v, and is the head of its bucket
 pub record LinkWritten (links heads m b v : ℕ) (l l' : List ℕ) : Type 0 where
   pub wrote : l' ≡ splice (splice l (links + 4 * m) (word v)) (heads + 4 * b) (word m)

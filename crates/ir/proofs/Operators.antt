@@ -9,7 +9,7 @@ use lib.Dec.{eqb}
 use lib.ListN.{length, get_or}
 use borrow.Author.Tests.{eqb-true}
 use Rattle.laws.proofs.Tests.{and_left, and_right}
-use Rattle.syntax.specs.Syntax.{unary_ops, binary_ops, unary_number, binary_number, Neg, Or}
+use Rattle.syntax.specs.Syntax.{binary_ops, binary_number, Or}
 
 -- the numbers of xs are i and those behind it
 abbrev numbered_from : {X : Type 0} → (X → ℕ) → List X → ℕ → Bool
@@ -28,14 +28,5 @@ past [] d k h = refl
 past (x ∷ xs) d zero h = absurd (omega arith)
 past (x ∷ xs) d (suc k) h = past xs d k (omega arith)
 
-pub unary_in_lem : (k : ℕ) → k < 3 → k ≡ unary_number (get_or unary_ops k Neg)
-unary_in_lem k h = omega (arith, at unary_number unary_ops Neg 0 k refl h)
-
-pub unary-out : (k : ℕ) → 3 ≤ k → 0 ≡ unary_number (get_or unary_ops k Neg)
-unary-out k h = rw (past unary_ops Neg k h)
-
 pub binary_in_lem : (k : ℕ) → k < 18 → k ≡ binary_number (get_or binary_ops k Or)
 binary_in_lem k h = omega (arith, at binary_number binary_ops Or 0 k refl h)
-
-pub binary-out : (k : ℕ) → 18 ≤ k → 0 ≡ binary_number (get_or binary_ops k Or)
-binary-out k h = rw (past binary_ops Or k h)

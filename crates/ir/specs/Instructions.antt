@@ -9,6 +9,8 @@ use Rattle.conversion.specs.Written.{word, wide, encode_fields, binary_kind}
 use Rattle.ir.specs.declared.structs.VarId.{VarId}
 use Rattle.ir.specs.declared.structs.Operand.{Operand}
 use Rattle.ir.specs.declared.structs.Operand.TheVariants.{Var as var, Int as int, Float as float, Bool as bool, DataAddress as dataAddress, Null as null}
+use Rattle.ir.specs.declared.structs.InstructionKind.{InstructionKind}
+use Rattle.ir.specs.declared.structs.Tag.{Tag}
 use Rattle.ir.specs.declared.structs.Fields.{Fields}
 
 -- a variable's number and its type's record
@@ -24,11 +26,38 @@ operand_of (bool b) = OBool b
 operand_of (dataAddress i) = ODataAddress i
 operand_of null = ONull
 
+-- the kinds of instructions and the tags of operands, the code's by the definition's numbers
+abbrev pub kind_number : InstructionKind → ℕ
+kind_number InstructionKind.Copy = 1
+kind_number InstructionKind.Unary = 2
+kind_number InstructionKind.Binary = 3
+kind_number InstructionKind.Cast = 4
+kind_number InstructionKind.Zero = 5
+kind_number InstructionKind.Arg = 6
+kind_number InstructionKind.Call = 7
+kind_number InstructionKind.Label = 8
+kind_number InstructionKind.Jump = 9
+kind_number InstructionKind.JumpIfNot = 10
+kind_number InstructionKind.Return = 11
+kind_number InstructionKind.Comment = 12
+
+abbrev pub tag_number : Tag → ℕ
+tag_number Tag.Nothing = 0
+tag_number Tag.Variable = 1
+tag_number Tag.Int = 2
+tag_number Tag.IntShort = 3
+tag_number Tag.Unsigned = 4
+tag_number Tag.UnsignedShort = 5
+tag_number Tag.Float = 6
+tag_number Tag.Bool = 7
+tag_number Tag.String = 8
+tag_number Tag.Null = 9
+
 -- 'byte 0 kind .., byte 1 operator, bytes 2 and 3 operand tags, word 4 destination or label, operands of 8 bytes at 8 and 16, word 24
 -- function or statement record, word 28 zero'
 unfoldable pub field_bytes : Fields → List ℕ
 unfolding word wide
-field_bytes f = (f.kind ∷ f.operator ∷ f.first.tag ∷ f.second.tag ∷ [])
+field_bytes f = (kind_number f.kind ∷ f.operator ∷ tag_number f.first.tag ∷ tag_number f.second.tag ∷ [])
     ++ word f.target ++ wide f.first.value ++ wide f.second.value ++ word f.owner ++ word 0
 
 -- an instruction with no operand, one, and two (a Binary), as it is written

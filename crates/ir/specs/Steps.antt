@@ -10,9 +10,9 @@ use Rattle.conversion.specs.Ir as Ir
 use Rattle.conversion.specs.Ir.{State, Out, made, failed, M, LabelName, StringEntry, FloatEntry}
 use Rattle.conversion.specs.Written.{word, encode_instr, encode_var, encode_label, encode_float}
 use Rattle.ir.specs.declared.structs.Counters.{Counters}
-use Rattle.ir.specs.declared.structs.NewVariable.{NewVariable}
-use Rattle.ir.specs.declared.structs.LabelNumber.{LabelNumber}
-use Rattle.ir.specs.declared.pool.PoolNumber.{PoolNumber}
+use Rattle.ir.specs.declared.structs.Label.{Label}
+use Rattle.ir.specs.declared.structs.VarId.{VarId}
+use Rattle.ir.specs.declared.structs.WithCounters.{WithCounters}
 use Rattle.ir.specs.Instructions.{var_of}
 use Rattle.ir.specs.Amounts.{amount, Spent}
 use Rattle.ir.specs.Search.{float_head}
@@ -90,9 +90,9 @@ pub record Emits (i : Ir.Instr) (k : Counters) (l : List ℕ) (k' : Counters) (l
   pub spent : Spent k k' (amount 1 0 0 0 0)
   pub entry : Wrote l (instruction_entry_at k.instructions) (encode_instr i) (more_instructions k) k' l'
 
-pub record AddsVar (y : ℕ) (k : Counters) (l : List ℕ) (r : NewVariable) (l' : List ℕ) : Type 0 where
-  pub next : Next (Ir.new_var y) k l (var_of r.var) r.counters l'
-  pub typed : r.var.1 ≡ y
+pub record AddsVar (y : ℕ) (k : Counters) (l : List ℕ) (r : WithCounters VarId) (l' : List ℕ) : Type 0 where
+  pub next : Next (Ir.new_var y) k l (var_of r.value) r.counters l'
+  pub typed : r.value.1 ≡ y
   pub spent : Spent k r.counters (amount 0 1 0 0 0)
   pub entry : Wrote l (variable_entry_at k.records k.variables) (encode_var y) (more_variables k) r.counters l'
 
@@ -106,8 +106,8 @@ LabelAdded kind opener k l k' l' =
     (label_entry_at k.records k.labels) (encode_label (named kind opener)) (more_labels k) k' l'
 
 -- an entry more, or one that was there
-pub record NumbersLabel (kind opener : ℕ) (k : Counters) (l : List ℕ) (r : LabelNumber) (l' : List ℕ) : Type 0 where
-  pub next : Next (Ir.label_id (named kind opener)) k l r.label.0 r.counters l'
+pub record NumbersLabel (kind opener : ℕ) (k : Counters) (l : List ℕ) (r : WithCounters Label) (l' : List ℕ) : Type 0 where
+  pub next : Next (Ir.label_id (named kind opener)) k l r.value.0 r.counters l'
   pub spent : Spent k r.counters (amount 0 0 1 0 0)
   pub entry : LabelAdded kind opener k l r.counters l' ⊎ TablesStay k l r.counters l'
 
@@ -118,9 +118,9 @@ StringAdded o offset len k l k' l' =
     (string_slot_at k.records o) (word k.strings) (more_strings k) k' l'
 
 -- the string at this place, whose text has the number o: so for all texts whose numbers tell them apart
-pub record NumbersString (o offset len : ℕ) (k : Counters) (l : List ℕ) (r : PoolNumber) (l' : List ℕ) : Type 0 where
+pub record NumbersString (o offset len : ℕ) (k : Counters) (l : List ℕ) (r : WithCounters ℕ) (l' : List ℕ) : Type 0 where
   pub next : (texts : NumberedTexts) → TellsApart texts.number k.records → texts.number (text_at texts.text offset len) ≡ o
-      → NextIn texts (Ir.string_id (entry_of_string texts.text offset len)) k l r.number r.counters l'
+      → NextIn texts (Ir.string_id (entry_of_string texts.text offset len)) k l r.value r.counters l'
   pub spent : Spent k r.counters (amount 0 0 0 1 0)
   pub entry : StringAdded o offset len k l r.counters l' ⊎ TablesStay k l r.counters l'
 
@@ -130,8 +130,8 @@ FloatAdded bytes b last k l k' l' =
     WroteThree l (float_entry_at k.records k.floats) bytes (float_link_at k.records k.floats) (word last)
     (float_head_at k.records b) (word k.floats) (more_floats k) k' l'
 
-pub record NumbersFloat (e : FloatEntry) (k : Counters) (l : List ℕ) (r : PoolNumber) (l' : List ℕ) : Type 0 where
-  pub next : Next (Ir.float_id e) k l r.number r.counters l'
+pub record NumbersFloat (e : FloatEntry) (k : Counters) (l : List ℕ) (r : WithCounters ℕ) (l' : List ℕ) : Type 0 where
+  pub next : Next (Ir.float_id e) k l r.value r.counters l'
   pub spent : Spent k r.counters (amount 0 0 0 0 1)
   pub entry :
       FloatAdded (encode_float e) (float_entry_bucket k.records e) (float_head l k.records k.floats (float_entry_bucket k.records e)) k l r.counters l'

@@ -8,7 +8,7 @@ ghost use Rattle.ir.specs.Floats.{entry_of_float};
 ghost use Rattle.ir.specs.Steps.{named, AddsVar, NumbersLabel, NumbersString, NumbersFloat, Closes, Next};
 
 use crate::floats::FloatBits;
-use crate::structs::{Counters, Label, VarId};
+use crate::structs::{Counters, Label, TextId, VarId};
 use crate::{pool, structs};
 
 // Which word is which: the records of the tree, the entries of each table, and how many there were before the function at hand began.
@@ -54,48 +54,51 @@ pub fn counters_of(k: &[usize]) -> Counters
     }
 }
 
+// The four that number differ in the step and in the word that they store: one function for them would take the step as a closure, and each clause would have to
+// speak of what that closure ensures.
+
 // A new variable of this type.
 pub fn new_var(arena: &mut [u8], k: &mut [usize], ty: u32) -> VarId
     requires { Room (counted k.old) arena.old × ((counted k.old).variables < 3 * (counted k.old).records) }
-    ensures { AddsVar ty (counted k.old) arena.old (record { var = result; counters = counted k.new }) arena.new }
+    ensures { AddsVar ty (counted k.old) arena.old (record { value = result; counters = counted k.new }) arena.new }
 {
     let c = counters_of(k);
     let made = structs::new_var(arena, c, ty);
     k[COUNT_VARIABLES] = made.counters.variables;
-    made.var
+    made.value
 }
 
 // The label of this kind that this record opens.
 pub fn label_id(arena: &mut [u8], k: &mut [usize], kind: u32, opener: u32) -> Label
     requires { Room (counted k.old) arena.old × ((counted k.old).labels < 3 * (counted k.old).records) × HasSlot (counted k.old).records (named kind opener) }
-    ensures { NumbersLabel kind opener (counted k.old) arena.old (record { label = result; counters = counted k.new }) arena.new }
+    ensures { NumbersLabel kind opener (counted k.old) arena.old (record { value = result; counters = counted k.new }) arena.new }
 {
     let c = counters_of(k);
     let found = structs::label_id(arena, c, kind, opener);
     k[COUNT_LABELS] = found.counters.labels;
-    found.label
+    found.value
 }
 
-// The string at this place, whose text has the number o.
-pub fn string_id(arena: &mut [u8], k: &mut [usize], o: usize, offset: u32, len: u32) -> u32
-    requires { Room (counted k.old) arena.old × ((counted k.old).strings < (counted k.old).records) × (o < (counted k.old).records) }
-    ensures { NumbersString o offset len (counted k.old) arena.old (record { number = result; counters = counted k.new }) arena.new }
+// The string with this text.
+pub fn string_id(arena: &mut [u8], k: &mut [usize], text: TextId) -> u32
+    requires { Room (counted k.old) arena.old × ((counted k.old).strings < (counted k.old).records) × (text.number < (counted k.old).records) }
+    ensures { NumbersString text.number text.offset text.len (counted k.old) arena.old (record { value = result; counters = counted k.new }) arena.new }
 {
     let c = counters_of(k);
-    let found = pool::string_id(arena, c, o, offset, len);
+    let found = pool::string_id(arena, c, text);
     k[COUNT_STRINGS] = found.counters.strings;
-    found.number
+    found.value
 }
 
 // The float with these bits and this mark.
 pub fn float_id(arena: &mut [u8], k: &mut [usize], f: FloatBits) -> u32
     requires { Room (counted k.old) arena.old × ((counted k.old).floats < 2 * (counted k.old).records) }
-    ensures { NumbersFloat (entry_of_float f) (counted k.old) arena.old (record { number = result; counters = counted k.new }) arena.new }
+    ensures { NumbersFloat (entry_of_float f) (counted k.old) arena.old (record { value = result; counters = counted k.new }) arena.new }
 {
     let c = counters_of(k);
     let found = pool::float_id(arena, c, f);
     k[COUNT_FLOATS] = found.counters.floats;
-    found.number
+    found.value
 }
 
 // The bits of a float that was numbered; 0 for a number that none has.

@@ -14,17 +14,10 @@ use crate::arena::{
 };
 use crate::floats::{FloatBits, entry_bits};
 use crate::search::walk_float;
-use crate::structs::Counters;
+use crate::structs::{Counters, TextId, WithCounters};
 use records::words::{
-    Four, SECOND_WORD, THIRD_WORD, high, index, load, low, mark, put_four, put_pair, put_word,
+    Four, SECOND_WORD, THIRD_WORD, high, index, load, low, put_four, put_pair, put_word,
 };
-
-// An entry's number, and the counters that count it.
-#[derive(Clone, Copy)]
-pub struct PoolNumber {
-    pub number: u32,
-    pub counters: Counters,
-}
 
 // Whether there is a string i, and its text has the number o.
 fn has_number(arena: &[u8], k: Counters, i: usize, o: usize) -> bool
@@ -37,22 +30,31 @@ fn has_number(arena: &[u8], k: Counters, i: usize, o: usize) -> bool
     index(load(arena, STRING_NUMBERS * k.records + SEARCH_BYTES * i)) == o
 }
 
-// A string more, at this place, whose text has the number o: its own number goes to the slot of that.
-fn add_string(arena: &mut [u8], k: Counters, o: usize, offset: u32, len: u32) -> PoolNumber
-    requires { Room k arena.old × (k.strings < k.records) × (o < k.records) }
-    ensures { (result.number ≡ k.strings) × StringAdded o offset len k arena.old result.counters arena.new }
+// A string more, with this text: its own number goes to the slot of the text's.
+fn add_string(arena: &mut [u8], k: Counters, text: TextId) -> WithCounters<u32>
+    requires { Room k arena.old × (k.strings < k.records) × (text.number < k.records) }
+    ensures { (result.value ≡ k.strings) × StringAdded text.number text.offset text.len k arena.old result.counters arena.new }
 {
     let v = k.strings;
     let number = v as u32;
-    put_pair(arena, STRINGS * k.records + STRING_BYTES * v, offset, len);
+    put_pair(
+        arena,
+        STRINGS * k.records + STRING_BYTES * v,
+        text.offset,
+        text.len,
+    );
     put_word(
         arena,
         STRING_NUMBERS * k.records + SEARCH_BYTES * v,
-        o as u32,
+        text.number as u32,
     );
-    put_word(arena, STRING_SLOTS * k.records + SEARCH_BYTES * o, number);
-    PoolNumber {
+    put_word(
+        arena,
+        STRING_SLOTS * k.records + SEARCH_BYTES * text.number,
         number,
+    );
+    WithCounters {
+        value: number,
         counters: Counters {
             strings: v + 1,
             ..k
@@ -60,20 +62,20 @@ fn add_string(arena: &mut [u8], k: Counters, o: usize, offset: u32, len: u32) ->
     }
 }
 
-// The string whose text has the number o, its entry the place of its first use. The slot of the number has the string, or what nobody wrote there: the number
+// The string with this text, its entry the place of its first use. The slot of the text's number has the string, or what nobody wrote there: the number
 // beside the string tells. So no text is read.
-pub fn string_id(arena: &mut [u8], k: Counters, o: usize, offset: u32, len: u32) -> PoolNumber
-    requires { Room k arena.old × (k.strings < k.records) × (o < k.records) }
-    ensures { NumbersString o offset len k arena.old result arena.new }
+pub fn string_id(arena: &mut [u8], k: Counters, text: TextId) -> WithCounters<u32>
+    requires { Room k arena.old × (k.strings < k.records) × (text.number < k.records) }
+    ensures { NumbersString text.number text.offset text.len k arena.old result arena.new }
 {
-    let number = load(arena, STRING_SLOTS * k.records + SEARCH_BYTES * o);
-    if has_number(arena, k, index(number), o) {
-        return PoolNumber {
-            number,
+    let number = load(arena, STRING_SLOTS * k.records + SEARCH_BYTES * text.number);
+    if has_number(arena, k, index(number), text.number) {
+        return WithCounters {
+            value: number,
             counters: k,
         };
     }
-    add_string(arena, k, o, offset, len)
+    add_string(arena, k, text)
 }
 
 // An entry's link, and its number at the head of its bucket.
@@ -119,9 +121,9 @@ fn float_head(arena: &[u8], k: Counters, b: usize) -> usize
 }
 
 // A float more, before the others of its bucket b, of which `last` is one past the last.
-fn add_float(arena: &mut [u8], k: Counters, w: Four, b: usize, last: usize) -> PoolNumber
+fn add_float(arena: &mut [u8], k: Counters, w: Four, b: usize, last: usize) -> WithCounters<u32>
     requires { Room k arena.old × (k.floats < 2 * k.records) × (b < k.records) × (last ≤ k.floats) }
-    ensures { (result.number ≡ k.floats) × FloatAdded (word w.0 ++ word w.1 ++ word w.2 ++ word w.3) b last k arena.old result.counters arena.new }
+    ensures { (result.value ≡ k.floats) × FloatAdded (word w.0 ++ word w.1 ++ word w.2 ++ word w.3) b last k arena.old result.counters arena.new }
 {
     let v = k.floats;
     let number = v as u32;
@@ -133,24 +135,24 @@ fn add_float(arena: &mut [u8], k: Counters, w: Four, b: usize, last: usize) -> P
         FLOAT_HEADS * k.records + SEARCH_BYTES * b,
         number,
     );
-    PoolNumber {
-        number,
+    WithCounters {
+        value: number,
         counters: Counters { floats: v + 1, ..k },
     }
 }
 
 // The float with these bits and this mark, looked for among those of its bucket.
-pub fn float_id(arena: &mut [u8], k: Counters, f: FloatBits) -> PoolNumber
+pub fn float_id(arena: &mut [u8], k: Counters, f: FloatBits) -> WithCounters<u32>
     requires { Room k arena.old × (k.floats < 2 * k.records) }
     ensures { NumbersFloat (entry_of_float f) k arena.old result arena.new }
 {
     let e = entry_bits(f);
-    let w = Four(low(e.bits), high(e.bits), mark(e.short), 0);
+    let w = Four(low(e.bits), high(e.bits), u32::from(e.short), 0);
     let b = float_bucket(k.records, w);
     let last = float_head(arena, k, b);
     match walk_float(arena, FLOATS * k.records, FLOAT_LINKS * k.records, last, w) {
-        Some(i) => PoolNumber {
-            number: i as u32,
+        Some(i) => WithCounters {
+            value: i as u32,
             counters: k,
         },
         None => add_float(arena, k, w, b, last),

@@ -6,7 +6,7 @@ ghost use Rattle.laws.specs.Splice.{splice};
 ghost use Rattle.syntax.specs.Syntax.{unary_ops, binary_ops, unary_number, binary_number, Neg, Or};
 ghost use Rattle.conversion.specs.Ir as Ir;
 ghost use Rattle.conversion.specs.Written.{tag, operand_value, encode_instr, instruction_bytes};
-ghost use Rattle.ir.specs.Instructions.{var_of, operand_of, field_bytes, one_bytes, none_bytes, two_bytes};
+ghost use Rattle.ir.specs.Instructions.{var_of, operand_of, kind_number, tag_number, field_bytes, one_bytes, none_bytes, two_bytes};
 ghost use Rattle.ir.specs.Arena.{HasSlot, Room};
 ghost use Rattle.ir.specs.Counted.{counted};
 ghost use Rattle.ir.specs.Steps.{named, Emits, AddsVar, NumbersLabel, Closes};
@@ -15,59 +15,45 @@ use crate::arena::{FUNCTION_BYTES, FUNCTIONS, INSTRUCTION_BYTES};
 use crate::counter;
 use crate::lent::COUNT_INSTRUCTIONS;
 use records::numbers::{BINARY_OPS, NEG, OR, UNARY_OPS};
-use records::words::{Four, NONE, high, low, mark, put_four, wide};
+use records::words::{Four, NONE, high, low, put_four};
 
 // Kinds of instructions.
-const COPY: u8 = 1;
+#[derive(Clone, Copy, Debug, PartialEq, Eq)]
+pub enum InstructionKind {
+    Copy = 1,
+    Unary,
+    Binary,
+    Cast,
+    Zero,
+    Arg,
+    Call,
+    Label,
+    Jump,
+    JumpIfNot,
+    Return,
+    Comment,
+}
 
-const UNARY: u8 = 2;
-
-const BINARY: u8 = 3;
-
-const CAST: u8 = 4;
-
-const ZERO: u8 = 5;
-
-const ARG: u8 = 6;
-
-const CALL: u8 = 7;
-
-const LABEL: u8 = 8;
-
-const JUMP: u8 = 9;
-
-const JUMP_IF_NOT: u8 = 10;
-
-const RETURN: u8 = 11;
-
-const COMMENT: u8 = 12;
+// Tags of operands.
+#[derive(Clone, Copy, Debug, PartialEq, Eq)]
+pub enum Tag {
+    Nothing = 0,
+    Variable,
+    Int,
+    IntShort,
+    Unsigned,
+    UnsignedShort,
+    Float,
+    Bool,
+    String,
+    Null,
+}
 
 // An instruction, and a function's entry, are eight words: where the second four begin.
 const SECOND_FOUR: usize = 16;
 
 // Where a kind has no operator.
 const NO_OPERATOR: u8 = 0;
-
-// Tags of operands.
-pub const TAG_NONE: u8 = 0;
-
-pub const TAG_VARIABLE: u8 = 1;
-
-pub const TAG_INT: u8 = 2;
-
-pub const TAG_INT_SHORT: u8 = 3;
-
-pub const TAG_UNSIGNED: u8 = 4;
-
-pub const TAG_UNSIGNED_SHORT: u8 = 5;
-
-pub const TAG_FLOAT: u8 = 6;
-
-pub const TAG_BOOL: u8 = 7;
-
-pub const TAG_STRING: u8 = 8;
-
-pub const TAG_NULL: u8 = 9;
 
 // A label's number in its function.
 #[derive(Clone, Copy)]
@@ -76,6 +62,14 @@ pub struct Label(pub u32);
 // A variable: its number in its function, and its type's record.
 #[derive(Clone, Copy)]
 pub struct VarId(pub u32, pub u32);
+
+// A text of the tree: its number, which is the lowest record with it, and where it stands, in the two words of a record with it.
+#[derive(Clone, Copy, Debug, PartialEq, Eq)]
+pub struct TextId {
+    pub number: usize,
+    pub offset: u32,
+    pub len: u32,
+}
 
 #[derive(Clone, Copy)]
 pub enum Operand {
@@ -93,14 +87,14 @@ pub enum Operand {
 // An operand as it is written.
 #[derive(Clone, Copy)]
 pub struct WrittenOperand {
-    pub tag: u8,
+    pub tag: Tag,
     pub value: u64,
 }
 
 // An instruction as it is written; the last of its bytes are zero.
 #[derive(Clone, Copy)]
 pub struct Fields {
-    pub kind: u8,
+    pub kind: InstructionKind,
     pub operator: u8,
     pub first: WrittenOperand,
     pub second: WrittenOperand,
@@ -124,35 +118,28 @@ pub struct Counters {
     pub labels_before: usize,
 }
 
-// A new variable, and the counters that count it.
+// What a step numbered, and the counters that count it.
 #[derive(Clone, Copy)]
-pub struct NewVariable {
-    pub var: VarId,
+pub struct WithCounters<T> {
+    pub value: T,
     pub counters: Counters,
 }
 
-// A label's number, and the counters that count it.
-#[derive(Clone, Copy)]
-pub struct LabelNumber {
-    pub label: Label,
-    pub counters: Counters,
-}
-
-fn tag_of(o: Operand) -> u8
-    ensures { result ≡ tag (operand_of o) }
+fn tag_of(o: Operand) -> Tag
+    ensures { tag_number result ≡ tag (operand_of o) }
 {
     match o {
-        Operand::Var(_) => TAG_VARIABLE,
+        Operand::Var(_) => Tag::Variable,
         Operand::Int(_, short, unsigned) => match (short, unsigned) {
-            (true, true) => TAG_UNSIGNED_SHORT,
-            (true, false) => TAG_INT_SHORT,
-            (false, true) => TAG_UNSIGNED,
-            (false, false) => TAG_INT,
+            (true, true) => Tag::UnsignedShort,
+            (true, false) => Tag::IntShort,
+            (false, true) => Tag::Unsigned,
+            (false, false) => Tag::Int,
         },
-        Operand::Float(_) => TAG_FLOAT,
-        Operand::Bool(_) => TAG_BOOL,
-        Operand::DataAddress(_) => TAG_STRING,
-        Operand::Null => TAG_NULL,
+        Operand::Float(_) => Tag::Float,
+        Operand::Bool(_) => Tag::Bool,
+        Operand::DataAddress(_) => Tag::String,
+        Operand::Null => Tag::Null,
     }
 }
 
@@ -170,7 +157,7 @@ fn value_of(o: Operand) -> u64
 }
 
 fn part_of(o: Operand) -> WrittenOperand
-    ensures { (result.tag ≡ tag (operand_of o)) × (result.value ≡ operand_value (operand_of o)) }
+    ensures { (tag_number result.tag ≡ tag (operand_of o)) × (result.value ≡ operand_value (operand_of o)) }
 {
     WrittenOperand {
         tag: tag_of(o),
@@ -193,17 +180,17 @@ fn binary_number(op: u8) -> u8
 
 // Nothing in an operand's place.
 fn no_part() -> WrittenOperand
-    ensures { (result.tag ≡ 0) × (result.value ≡ 0) }
+    ensures { (tag_number result.tag ≡ 0) × (result.value ≡ 0) }
 {
     WrittenOperand {
-        tag: TAG_NONE,
+        tag: Tag::Nothing,
         value: 0,
     }
 }
 
 // An instruction with one operand.
-fn with_one(kind: u8, operator: u8, target: u32, o: Operand) -> Fields
-    ensures { field_bytes result ≡ one_bytes kind operator target (operand_of o) }
+fn with_one(kind: InstructionKind, operator: u8, target: u32, o: Operand) -> Fields
+    ensures { field_bytes result ≡ one_bytes (kind_number kind) operator target (operand_of o) }
 {
     Fields {
         kind,
@@ -216,8 +203,8 @@ fn with_one(kind: u8, operator: u8, target: u32, o: Operand) -> Fields
 }
 
 // An instruction with none.
-fn with_none(kind: u8, target: u32, owner: u32) -> Fields
-    ensures { field_bytes result ≡ none_bytes kind target owner }
+fn with_none(kind: InstructionKind, target: u32, owner: u32) -> Fields
+    ensures { field_bytes result ≡ none_bytes (kind_number kind) target owner }
 {
     Fields {
         kind,
@@ -233,13 +220,27 @@ fn with_two(operator: u8, target: u32, o: Operand, p: Operand) -> Fields
     ensures { field_bytes result ≡ two_bytes operator target (operand_of o) (operand_of p) }
 {
     Fields {
-        kind: BINARY,
+        kind: InstructionKind::Binary,
         operator,
         first: part_of(o),
         second: part_of(p),
         target,
         owner: 0,
     }
+}
+
+// A kind's number, as it is written.
+fn number_of_kind(kind: InstructionKind) -> u32
+    ensures { (result ≡ kind_number kind) × (result < 256) }
+{
+    kind as u32
+}
+
+// A tag's.
+fn number_of_tag(tag: Tag) -> u32
+    ensures { (result ≡ tag_number tag) × (result < 256) }
+{
+    tag as u32
 }
 
 // The bytes of an instruction.
@@ -249,10 +250,10 @@ fn put_fields(arena: &mut [u8], at: usize, f: Fields)
 {
     let one = f.first;
     let two = f.second;
-    let head = wide(f.kind)
-        + wide(f.operator) * 256
-        + wide(one.tag) * 65536
-        + wide(two.tag) * 16777216;
+    let head = number_of_kind(f.kind)
+        + u32::from(f.operator) * 256
+        + number_of_tag(one.tag) * 65536
+        + number_of_tag(two.tag) * 16777216;
     let back = at + SECOND_FOUR;
     let a = Four(head, f.target, low(one.value), high(one.value));
     let b = Four(low(two.value), high(two.value), f.owner, 0);
@@ -275,7 +276,11 @@ pub fn emit_copy(arena: &mut [u8], k: &mut [usize], dest: VarId, src: Operand)
     requires { Room (counted k.old) arena.old × ((counted k.old).instructions < 4 * (counted k.old).records) }
     ensures { Emits (Ir.Copy (var_of dest) (operand_of src)) (counted k.old) arena.old (counted k.new) arena.new }
 {
-    push(arena, k, with_one(COPY, NO_OPERATOR, dest.0, src));
+    push(
+        arena,
+        k,
+        with_one(InstructionKind::Copy, NO_OPERATOR, dest.0, src),
+    );
 }
 
 // An operator is its number.
@@ -283,7 +288,11 @@ pub fn emit_unary(arena: &mut [u8], k: &mut [usize], dest: VarId, op: u8, src: O
     requires { Room (counted k.old) arena.old × ((counted k.old).instructions < 4 * (counted k.old).records) }
     ensures { Emits (Ir.Unary (var_of dest) (get_or unary_ops op Neg) (operand_of src)) (counted k.old) arena.old (counted k.new) arena.new }
 {
-    push(arena, k, with_one(UNARY, unary_number(op), dest.0, src));
+    push(
+        arena,
+        k,
+        with_one(InstructionKind::Unary, unary_number(op), dest.0, src),
+    );
 }
 
 pub fn emit_binary(
@@ -304,21 +313,29 @@ pub fn emit_cast(arena: &mut [u8], k: &mut [usize], dest: VarId, src: Operand)
     requires { Room (counted k.old) arena.old × ((counted k.old).instructions < 4 * (counted k.old).records) }
     ensures { Emits (Ir.Cast (var_of dest) (operand_of src)) (counted k.old) arena.old (counted k.new) arena.new }
 {
-    push(arena, k, with_one(CAST, NO_OPERATOR, dest.0, src));
+    push(
+        arena,
+        k,
+        with_one(InstructionKind::Cast, NO_OPERATOR, dest.0, src),
+    );
 }
 
 pub fn emit_zero(arena: &mut [u8], k: &mut [usize], dest: VarId)
     requires { Room (counted k.old) arena.old × ((counted k.old).instructions < 4 * (counted k.old).records) }
     ensures { Emits (Ir.Zero (var_of dest)) (counted k.old) arena.old (counted k.new) arena.new }
 {
-    push(arena, k, with_none(ZERO, dest.0, 0));
+    push(arena, k, with_none(InstructionKind::Zero, dest.0, 0));
 }
 
 pub fn emit_arg(arena: &mut [u8], k: &mut [usize], arg: Operand)
     requires { Room (counted k.old) arena.old × ((counted k.old).instructions < 4 * (counted k.old).records) }
     ensures { Emits (Ir.Arg (operand_of arg)) (counted k.old) arena.old (counted k.new) arena.new }
 {
-    push(arena, k, with_one(ARG, NO_OPERATOR, 0, arg));
+    push(
+        arena,
+        k,
+        with_one(InstructionKind::Arg, NO_OPERATOR, 0, arg),
+    );
 }
 
 // A call names its function's record.
@@ -326,7 +343,7 @@ pub fn emit_call(arena: &mut [u8], k: &mut [usize], dest: VarId, func: u32)
     requires { Room (counted k.old) arena.old × ((counted k.old).instructions < 4 * (counted k.old).records) }
     ensures { Emits (Ir.Call (some (var_of dest)) func) (counted k.old) arena.old (counted k.new) arena.new }
 {
-    push(arena, k, with_none(CALL, dest.0, func));
+    push(arena, k, with_none(InstructionKind::Call, dest.0, func));
 }
 
 // A call whose value nothing takes.
@@ -334,35 +351,43 @@ pub fn emit_call_only(arena: &mut [u8], k: &mut [usize], func: u32)
     requires { Room (counted k.old) arena.old × ((counted k.old).instructions < 4 * (counted k.old).records) }
     ensures { Emits (Ir.Call none func) (counted k.old) arena.old (counted k.new) arena.new }
 {
-    push(arena, k, with_none(CALL, NONE, func));
+    push(arena, k, with_none(InstructionKind::Call, NONE, func));
 }
 
 pub fn emit_label(arena: &mut [u8], k: &mut [usize], here: Label)
     requires { Room (counted k.old) arena.old × ((counted k.old).instructions < 4 * (counted k.old).records) }
     ensures { Emits (Ir.Label here.0) (counted k.old) arena.old (counted k.new) arena.new }
 {
-    push(arena, k, with_none(LABEL, here.0, 0));
+    push(arena, k, with_none(InstructionKind::Label, here.0, 0));
 }
 
 pub fn emit_jump(arena: &mut [u8], k: &mut [usize], target: Label)
     requires { Room (counted k.old) arena.old × ((counted k.old).instructions < 4 * (counted k.old).records) }
     ensures { Emits (Ir.Jump target.0) (counted k.old) arena.old (counted k.new) arena.new }
 {
-    push(arena, k, with_none(JUMP, target.0, 0));
+    push(arena, k, with_none(InstructionKind::Jump, target.0, 0));
 }
 
 pub fn emit_jump_if_not(arena: &mut [u8], k: &mut [usize], cond: Operand, target: Label)
     requires { Room (counted k.old) arena.old × ((counted k.old).instructions < 4 * (counted k.old).records) }
     ensures { Emits (Ir.JumpIfNot (operand_of cond) target.0) (counted k.old) arena.old (counted k.new) arena.new }
 {
-    push(arena, k, with_one(JUMP_IF_NOT, NO_OPERATOR, target.0, cond));
+    push(
+        arena,
+        k,
+        with_one(InstructionKind::JumpIfNot, NO_OPERATOR, target.0, cond),
+    );
 }
 
 pub fn emit_return(arena: &mut [u8], k: &mut [usize], value: Operand)
     requires { Room (counted k.old) arena.old × ((counted k.old).instructions < 4 * (counted k.old).records) }
     ensures { Emits (Ir.Return (operand_of value)) (counted k.old) arena.old (counted k.new) arena.new }
 {
-    push(arena, k, with_one(RETURN, NO_OPERATOR, 0, value));
+    push(
+        arena,
+        k,
+        with_one(InstructionKind::Return, NO_OPERATOR, 0, value),
+    );
 }
 
 // A comment names its statement's record.
@@ -370,27 +395,27 @@ pub fn emit_comment(arena: &mut [u8], k: &mut [usize], statement: u32)
     requires { Room (counted k.old) arena.old × ((counted k.old).instructions < 4 * (counted k.old).records) }
     ensures { Emits (Ir.Comment statement) (counted k.old) arena.old (counted k.new) arena.new }
 {
-    push(arena, k, with_none(COMMENT, 0, statement));
+    push(arena, k, with_none(InstructionKind::Comment, 0, statement));
 }
 
 // A new variable of this type: its number is its index among its function's variables.
-pub fn new_var(arena: &mut [u8], k: Counters, ty: u32) -> NewVariable
+pub fn new_var(arena: &mut [u8], k: Counters, ty: u32) -> WithCounters<VarId>
     requires { Room k arena.old × (k.variables < 3 * k.records) }
     ensures { AddsVar ty k arena.old result arena.new }
 {
     let mut f = k;
-    let var = counter::new_var(arena, &mut f, ty);
-    NewVariable { var, counters: f }
+    let value = counter::new_var(arena, &mut f, ty);
+    WithCounters { value, counters: f }
 }
 
 // The label of this kind that this record opens: its number is its index among its function's labels, added the first time it is asked.
-pub fn label_id(arena: &mut [u8], k: Counters, kind: u32, opener: u32) -> LabelNumber
+pub fn label_id(arena: &mut [u8], k: Counters, kind: u32, opener: u32) -> WithCounters<Label>
     requires { Room k arena.old × (k.labels < 3 * k.records) × HasSlot k.records (named kind opener) }
     ensures { NumbersLabel kind opener k arena.old result arena.new }
 {
     let mut f = k;
-    let label = counter::label_id(arena, &mut f, kind, opener);
-    LabelNumber { label, counters: f }
+    let value = counter::label_id(arena, &mut f, kind, opener);
+    WithCounters { value, counters: f }
 }
 
 // The function at hand is done: its entry, and the next one begins.
@@ -403,7 +428,7 @@ pub fn add_function(arena: &mut [u8], k: Counters, owner: u32, body: bool) -> Co
     let back = at + SECOND_FOUR;
     let a = Four(
         owner,
-        mark(body),
+        u32::from(body),
         k.instructions_before as u32,
         (k.instructions - k.instructions_before) as u32,
     );

@@ -1,10 +1,11 @@
 -- Laws of numbers that stop at a bound: sums may be taken in parts, and the larger of two stops as the two do.
 -- By whether each number is below the bound. Assumes nothing.
 use mathlib.Core.Path.{◌≡◌, refl, sym, ap, ◌∙◌}
-use Prim.Native.Nat.{ℕ, zero, suc, ◌+◌, ◌≤◌, ◌<◌}
+use Prim.Native.Nat.{ℕ, zero, suc, ◌+◌, ◌≤◌, ◌<◌, max}
 use native.Mathlib.Omega.{arith}
 use lib.Dec.{eqb, leb, ltb}
 use borrow.Author.Tests.{le-ltb, ltb-true, ltb-false, le-leb, lt-leb, leb-true, leb-false, ne_eqb}
+use Rattle.std.proofs.Math.Nat.{max-eq_left, max-eq_right}
 use Rattle.laws.specs.Fix.{pick}
 use Rattle.laws.proofs.FixLaws.{pick_yes, pick_no}
 use Rattle.laws.proofs.Tests.{tested}
@@ -46,13 +47,19 @@ cap_rises m x y h =
     omega (arith, cap_low m x (omega arith), cap_low m y (omega arith)))
     (λ t. omega (arith, cap_small m x, cap_high m y (ltb-false y m t)))
 
-pub larger-second : (x y : ℕ) → x ≤ y → y ≡ larger x y
+larger-second : (x y : ℕ) → x ≤ y → y ≡ larger x y
 unfolding larger
 larger-second x y h = sym (pick_yes (leb x y) y x (le-leb x y h))
 
-pub larger-first : (x y : ℕ) → y < x → x ≡ larger x y
+larger-first : (x y : ℕ) → y < x → x ≡ larger x y
 unfolding larger
 larger-first x y h = sym (pick_no (leb x y) y x (lt-leb x y h))
+
+pub larger-is : (x y : ℕ) → max x y ≡ larger x y
+larger-is x y =
+    tested (leb x y)
+    (λ t. max-eq_right (leb-true x y t) ∙ larger-second x y (leb-true x y t))
+    (λ t. max-eq_left (omega (arith, leb-false x y t)) ∙ larger-first x y (leb-false x y t))
 
 pub larger-none : (x : ℕ) → larger x 0 ≡ x
 larger-none x =

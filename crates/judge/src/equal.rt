@@ -17,9 +17,7 @@ use records::layout::{CHAIN_EACH, CHAIN_ENTRY_BYTES, CHAIN_HEAD_BYTES};
 use records::numbers::FORM_CUSTOM;
 use records::samples::{sample, sampled_roll, stride_within};
 use records::texts::{roll_digest, word_digest};
-use records::words::{
-    SECOND_WORD, WORD_A, WORD_B, WORD_C, detail, index, load, put_pair, wide, word,
-};
+use records::words::{SECOND_WORD, WORD_A, WORD_B, WORD_C, detail, index, load, put_pair, word};
 use sorting::sorted::{SORT_ENTRY_BYTES, first_repeated, sort_records};
 
 // How long the name of type r is: only a Custom has one.
@@ -68,7 +66,7 @@ fn type_digest(tree: &[u8], text: &[u8], scratch: &[u8], at: usize, stride: usiz
     if d == FORM_CUSTOM {
         return roll_digest(sampled_roll(text, scratch, at, stride, a, b));
     }
-    word_digest(wide(d), a, b, word(tree, r, WORD_C))
+    word_digest(u32::from(d), a, b, word(tree, r, WORD_C))
 }
 
 // Type k is taken for r: they share a digest, and are equal where r is no Custom. No name is looked at: the text is lent for the contract alone, here and below.

@@ -2,19 +2,12 @@
 ghost use Rattle.std.specs.Prelude.{◌≡◌, ◌+◌, ◌≤◌, eqb};
 ghost use Rattle.laws.specs.Fix.{pick};
 ghost use Rattle.records.specs.Kinds.{kind_list};
-ghost use Rattle.records.specs.Depth.{larger};
 ghost use Rattle.judge.specs.Inner.{capped, too_deep};
 
 use records::numbers::KIND_LIST;
 
 // Deeper than this is all the same.
 const TOO_DEEP: u8 = 65;
-
-pub(crate) fn max(x: u8, y: u8) -> u8
-    ensures { result ≡ larger x y }
-{
-    if x <= y { y } else { x }
-}
 
 // How deep a record of this kind is, given the deepest that it refers to.
 pub(crate) fn depth_over(k: u8, below: u8) -> u8

@@ -12,7 +12,7 @@ ghost use Rattle.judge.specs.Judge.{fewest_records, deepest_allowed};
 ghost use Rattle.judge.specs.Inner.{Lowest, LowestSoFar, Passing, KnownBelow, Counting, Took, TookWords, WordsOf, TookRecord, TookAll, depth_in, stored};
 
 use crate::equal::first_equal;
-use crate::nesting::{depth_over, max};
+use crate::nesting::depth_over;
 use crate::plain::{RULE_NUMBERS, RULES, take_plain};
 use crate::references::{Told, lowest_miscounted, take_reference};
 use crate::rules::{MIXED, class_at, is_unused, marks_ok};
@@ -96,7 +96,7 @@ fn take_words(tree: &[u8], bytes: usize, r: usize, row: Row, words: Words, known
     let ta = take_word(tree, bytes, r, ra, a, b, known);
     let tb = take_word(tree, bytes, r, rb, b, c, known);
     if is_unused(rc) & is_unused(rd) & is_unused(re) {
-        let depth = max(ta.depth, tb.depth);
+        let depth = ta.depth.max(tb.depth);
         return Told {
             ok: ta.ok & tb.ok & (c == 0) & (d == 0) & (e == 0),
             depth,
@@ -105,10 +105,10 @@ fn take_words(tree: &[u8], bytes: usize, r: usize, row: Row, words: Words, known
     let tc = take_word(tree, bytes, r, rc, c, d, known);
     let td = take_word(tree, bytes, r, rd, d, e, known);
     let te = take_word(tree, bytes, r, re, e, 0, known);
-    let de = max(td.depth, te.depth);
-    let ce = max(tc.depth, de);
-    let be = max(tb.depth, ce);
-    let depth = max(ta.depth, be);
+    let de = td.depth.max(te.depth);
+    let ce = tc.depth.max(de);
+    let be = tb.depth.max(ce);
+    let depth = ta.depth.max(be);
     Told {
         ok: ta.ok & tb.ok & tc.ok & td.ok & te.ok,
         depth,

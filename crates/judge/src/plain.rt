@@ -8,13 +8,13 @@ ghost use Rattle.records.specs.Shapes.{row_of};
 ghost use Rattle.judge.specs.Inner.{class_in, item_class, class_at};
 ghost use Rattle.judge.specs.Plain.{plain_rules, rule_rows, rule_numbers, must_refer, must_be_zero, badge_in, badge_within, Place, Cells, Owned, PlainForm, WordSlots, TookSlots, PlainReady, TookPlain};
 
-use crate::nesting::{depth_over, max};
+use crate::nesting::depth_over;
 use crate::pass::{Words, five_words, put_known};
 use crate::references::Told;
 use crate::rules::{BADGES_EACH, MIXED, PARAMETERS, otherwise_ok};
 use records::layout::{CLASS_AT, COUNT_AT, DEPTH_AT, KIND_AT, KNOWN_BYTES};
 use records::numbers::{KIND_FUNCTION, KIND_LIST, KIND_VARIABLE};
-use records::words::{NONE, WORD_C, detail, index, pad, wide, word};
+use records::words::{NONE, WORD_C, detail, index, pad, word};
 
 // Words are numbers below this; none is the last of them.
 const WORDS: usize = 4294967296;
@@ -84,7 +84,7 @@ fn scaled(x: usize, by: u8) -> usize
     requires { x ≤ 8589934592 }
     ensures { (result ≡ x * by) × (result ≤ 2190433320960) }
 {
-    x * index(wide(by))
+    x * index(u32::from(by))
 }
 
 // The slot that word w leads to, by the rule that starts at `at`.
@@ -100,7 +100,7 @@ fn place_ok(p: usize, r: usize, rules: &[u8; RULE_NUMBERS], at: usize) -> bool
     requires { at + must_be_zero < rule_numbers }
     ensures { result ≡ (leb (get_or rules.now (at + must_refer) 0) p && leb p r) }
 {
-    (index(wide(rules[at + MUST_REFER])) <= p) & (p <= r)
+    (index(u32::from(rules[at + MUST_REFER])) <= p) & (p <= r)
 }
 
 // The record in slot p is one that such a word may refer to.
@@ -108,9 +108,9 @@ fn badge_ok(known: &[u8], p: usize, rules: &[u8; RULE_NUMBERS], at: usize) -> bo
     requires { (at + must_be_zero < rule_numbers) × (p ≤ most_records) × (p * known_bytes + known_bytes ≤ length known.now) }
     ensures { result ≡ badge_within rules.now at (badge_in known.now p) }
 {
-    let badge = wide(known[p * KNOWN_BYTES + KIND_AT]) * BADGES_EACH
-        + wide(known[p * KNOWN_BYTES + CLASS_AT]);
-    (wide(rules[at + BADGE_FROM]) <= badge) & (badge <= wide(rules[at + BADGE_TO]))
+    let badge = u32::from(known[p * KNOWN_BYTES + KIND_AT]) * BADGES_EACH
+        + u32::from(known[p * KNOWN_BYTES + CLASS_AT]);
+    (u32::from(rules[at + BADGE_FROM]) <= badge) & (badge <= u32::from(rules[at + BADGE_TO]))
 }
 
 // One more reference to the record in slot p: 1 after 0, and 2 or more after that.
@@ -118,7 +118,7 @@ fn count_one(known: &mut [u8], p: usize)
     requires { (p ≤ most_records) × (p * known_bytes + known_bytes ≤ length known.old) }
     ensures { known.new ≡ set known.old (p * known_bytes + slot_count) ((get_or known.old (p * known_bytes + slot_count) 0 + 3) / 2) }
 {
-    let count = wide(known[p * KNOWN_BYTES + COUNT_AT]);
+    let count = u32::from(known[p * KNOWN_BYTES + COUNT_AT]);
     known[p * KNOWN_BYTES + COUNT_AT] = ((count + 3) / 2) as u8;
 }
 
@@ -228,13 +228,8 @@ fn take_slots(
     let badges = badge_ok(known, pa, rules, row)
         & badge_ok(known, pb, rules, row + RULE_OF_B)
         & badge_ok(known, pc, rules, row + RULE_OF_C);
-    let below = max(
-        known[pa * KNOWN_BYTES + DEPTH_AT],
-        max(
-            known[pb * KNOWN_BYTES + DEPTH_AT],
-            known[pc * KNOWN_BYTES + DEPTH_AT],
-        ),
-    );
+    let deeper = known[pb * KNOWN_BYTES + DEPTH_AT].max(known[pc * KNOWN_BYTES + DEPTH_AT]);
+    let below = known[pa * KNOWN_BYTES + DEPTH_AT].max(deeper);
     if !(badges & (below <= DEEPEST_BELOW)) {
         return Told {
             ok: false,

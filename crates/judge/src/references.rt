@@ -11,7 +11,7 @@ use crate::rules::{BADGES_EACH, high_badge, low_badge, none_ok};
 use records::layout::{KNOWN_BYTES, NEXT_CLASS, NEXT_COUNT, NEXT_DEPTH, NEXT_KIND};
 use records::numbers::{KIND_FUNCTION, KIND_TYPE};
 use records::shape::Role;
-use records::words::{NONE, index, kind, load, wide};
+use records::words::{NONE, index, kind, load};
 
 // A slot as a word: one more of the count and of the kind, and how many values a byte has.
 const ONE_COUNT: u32 = 256;
@@ -40,8 +40,8 @@ pub(crate) fn take_reference(tree: &[u8], r: usize, role: Role, w: u32, known: &
             depth: 0,
         };
     }
-    let badge = wide(known[i * KNOWN_BYTES + NEXT_KIND]) * BADGES_EACH
-        + wide(known[i * KNOWN_BYTES + NEXT_CLASS]);
+    let badge = u32::from(known[i * KNOWN_BYTES + NEXT_KIND]) * BADGES_EACH
+        + u32::from(known[i * KNOWN_BYTES + NEXT_CLASS]);
     let ok = (low_badge(role) <= badge) & (badge <= high_badge(role));
     let depth = known[i * KNOWN_BYTES + NEXT_DEPTH];
     let count = known[i * KNOWN_BYTES + NEXT_COUNT];

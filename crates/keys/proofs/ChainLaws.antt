@@ -91,10 +91,6 @@ module _ (s : List ℕ) (head link next : ℕ) (hh : head + 4 ≤ length s) (hl 
   chained_link : word_at s head < 4294967296 → Away link head → word_at s' link ≡ word_at s head
   chained_link h a = write_away half head next half_fit s' e link a ∙ write-there s link (word_at s head) hl half refl h
 
-pub chained_so : (s s₁ s₂ : List ℕ) (head link next before : ℕ) → before ≡ word_at s head → s₁ ≡ splice s link (word before) → s₂ ≡ splice s₁ head (word next) → s₂ ≡ chained_before head link next s
-chained_so s s₁ s₂ head link next before eb e₁ e₂ =
-    e₂ ∙ ap (λ (x : List ℕ). splice x head (word next)) (e₁ ∙ ap (λ (w : ℕ). splice s link (word w)) eb)
-
 -- ---- what is left as it was
 
 keeps_none : (tree s : List ℕ) → ChainKeeps tree s s
@@ -122,15 +118,6 @@ keeps_chained tree s head link next hh hl a b c d s' e =
     let m : List ℕ = splice s link (word (word_at s head)) in
     let long : length m ≡ length s = write-long s link (word_at s head) hl m refl in
     keeps_then tree s m s' (keeps_word tree s link (word_at s head) hl c d m refl) (keeps_word tree m head next (omega (arith, long)) a b s' e)
-
--- the heads are cleared
-pub keeps_heads : (tree s s₁ s₂ : List ℕ) → Cleared (48 * records tree) (48 * records tree + 4 * records tree) s s₁
-    → Cleared (56 * records tree) (56 * records tree + 4 * records tree) s₁ s₂ → ChainKeeps tree s s₂
-keeps_heads tree s s₁ s₂ c₁ c₂ = record {
-  long = c₂.long ∙ c₁.long;
-  before = λ i h. c₂.before i (omega arith) ∙ c₁.before i (omega arith);
-  behind = λ i h. c₂.behind i (omega arith) ∙ c₁.behind i (omega arith);
-}
 
 -- ---- chains
 
@@ -191,10 +178,6 @@ name_bucket-here tree text k h =
     tested (is_function tree k && is_mangled (function_of tree text k))
     (λ t. (and_left (is_function tree k) _ t, and_right (is_function tree k) _ t))
     (λ t. absurd (omega (arith, name_bucket-none tree text k t)))
-
--- the head of a digest's bucket
-pub head_read : (s : List ℕ) (n x d b w : ℕ) → w ≡ word_at s (key_head_at n b) → b ≡ bucket_of n d → d ≡ digest_end x → w ≡ word_at s (key_head_at n (bucket_of n (digest_end x)))
-head_read s n x d b w e eb ed = e ∙ ap (λ (y : ℕ). word_at s (key_head_at n y)) (eb ∙ ap (bucket_of n) ed)
 
 -- the number of a function's name, as it is read from the scratch
 module _ (tree text : List ℕ) (good : Good tree text) (f : ℕ) (at : FunctionAt tree f) where

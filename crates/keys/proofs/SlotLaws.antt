@@ -11,7 +11,6 @@ use lib.Dec.{eqb, ltb}
 use lib.ListN.{length, get_or}
 use borrow.Author.Tests.{eqb-true, eqb-false, ltb-true, ltb-false}
 use Rattle.laws.specs.Fix.{pick}
-use Rattle.laws.specs.Splice.{splice}
 use Rattle.laws.proofs.Splices.{length-splice}
 use Rattle.laws.proofs.Tests.{tested}
 use Rattle.records.specs.Digest.{roll_of}
@@ -105,9 +104,6 @@ slots_stay tree text s s' same F k r h t = rw (same (original tree text r) (orig
 
 -- ---- no function yet
 
-pub cleared-keys : (n : ℕ) (s s' : List ℕ) → Cleared (44 * n) (44 * n + 4 * n) s s' → Cleared (44 * n) (48 * n) s s'
-cleared-keys n s s' c = let q : 44 * n + 4 * n ≡ 48 * n = omega arith in rw q at c
-
 pub zero_word : (l : List ℕ) (p : ℕ) → get_or l p 0 ≡ 0 → get_or l (p + 1) 0 ≡ 0 → get_or l (p + 2) 0 ≡ 0 → get_or l (p + 3) 0 ≡ 0 → word_at l p ≡ 0
 unfolding word_at byte_at
 zero_word l p a b c d = rw (a, b, c, d)
@@ -130,9 +126,6 @@ module _ (tree text s s' : List ℕ) (c : Cleared (44 * records tree) (48 * reco
   }
 
 -- ---- one function more
-
-pub entered_at : (tree text s s' : List ℕ) (f o : ℕ) → o ≡ original tree text (key_record tree text f) → s' ≡ splice s (key_slot_at (records tree) o) (word (f + 1)) → s' ≡ key_entered tree text f s
-entered_at tree text s s' f o e w = w ∙ ap (λ (x : ℕ). splice s (key_slot_at (records tree) x) (word (f + 1))) e
 
 module _ (tree text s : List ℕ) (good : Good tree text) (room : 72 * records tree ≤ length s) (f : ℕ) (at : FunctionAt tree f) (s' : List ℕ) (e : s' ≡ key_entered tree text f s) where
   abbrev key : ℕ

@@ -1,5 +1,5 @@
 // Texts in the order of their common beginnings: how far two texts agree, where a text belongs in a chain, and its entry written.
-ghost use Rattle.std.specs.Prelude.{◌≡◌, ◌+◌, ◌*◌, ◌≤◌, ◌<◌, min, length};
+ghost use Rattle.std.specs.Prelude.{◌≡◌, ◌+◌, ◌*◌, ◌≤◌, ◌<◌, length};
 ghost use Rattle.records.specs.Words.{record_bytes, text_at};
 ghost use Rattle.records.specs.Chains.{ChainRoom};
 ghost use Rattle.records.specs.Order.{common as common_of, Agrees, record_text, Leads, PlaceOf, placed_at};
@@ -34,13 +34,6 @@ pub fn common(text: &[u8], a: usize, b: usize, n: usize, from: usize) -> usize
         }
     }
     n
-}
-
-// The lesser of two numbers.
-pub fn least(x: usize, y: usize) -> usize
-    ensures { result ≡ min x y }
-{
-    x.min(y)
 }
 
 // How far two texts agree, and whether they are the same.

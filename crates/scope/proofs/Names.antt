@@ -244,11 +244,6 @@ declare-taken text o offset len v constant sc s j q = record {
   found = looked text s sc (text_at text offset len) (some j) q;
 }
 
-pub mark_one : (b : ℕ) (c : Bool) → b ≡ bool_number c → b ≤ 1
-unfolding bool_number
-mark_one b true e = omega arith
-mark_one b false e = omega arith
-
 -- ---- as the code meets them: what the slot answered
 
 absent : (a : StdOption ℕ) → is_some a ≡ false → a ≡ None

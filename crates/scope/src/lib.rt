@@ -9,10 +9,10 @@ ghost use Rattle.records.specs.Layout.{open_names, scratch_each};
 ghost use Rattle.ir.specs.Search.{found_of};
 ghost use Rattle.scope.specs.Open.{open_name_at, words_are, open_at, NamesRoom, VariableAt, FindsTold, NameAfforded, DeclaresTold, within, loop_number, loop_of};
 
-use ir::structs::VarId;
+use ir::structs::{TextId, VarId};
 use records::layout::{NAME_SLOT_BYTES, NAME_SLOTS, OPEN_NAME_BYTES, OPEN_NAMES};
 use records::words::{
-    FOURTH_WORD, Four, NONE, SECOND_WORD, THIRD_WORD, index, load, mark, put_four, put_word,
+    FOURTH_WORD, Four, NONE, SECOND_WORD, THIRD_WORD, index, load, put_four, put_word,
 };
 
 // For a tree of so many records: how many names are open, the record of the innermost loop (or NONE), and the function's record.
@@ -31,37 +31,33 @@ pub struct Known {
     pub constant: bool,
 }
 
-// Whether the name of entry j is said by these two words.
-fn entry_is(scratch: &[u8], records: usize, j: usize, offset: u32, len: u32) -> bool
+// Whether the name of entry j is said by the two words of this one.
+fn entry_is(scratch: &[u8], records: usize, j: usize, name: TextId) -> bool
     requires { open_name_at records j + open_names.each ≤ length scratch.now }
-    ensures { result ≡ words_are scratch.now records offset len j }
+    ensures { result ≡ words_are scratch.now records name.offset name.len j }
 {
     let a = load(scratch, OPEN_NAMES * records + OPEN_NAME_BYTES * j);
     let n = load(
         scratch,
         OPEN_NAMES * records + OPEN_NAME_BYTES * j + SECOND_WORD,
     );
-    (offset == a) & (len == n)
+    (name.offset == a) & (name.len == n)
 }
 
-// The one of `count` open names that these two words say, with the text of number o: it stands where the slot says that the text was declared last. A
+// The one of `count` open names that the two words of this one say: it stands where the slot says that the text was declared last. A
 // slot outlives its name's block and is never cleared, so the entry there is held against the count and the words.
-fn open_at(
-    scratch: &[u8],
-    records: usize,
-    count: usize,
-    o: usize,
-    offset: u32,
-    len: u32,
-) -> Option<usize>
-    requires { (scratch_each * records ≤ length scratch.now) × (count ≤ records) × (o < records) }
-    ensures { result ≡ found_of (open_at scratch.now records count o offset len) }
+fn open_at(scratch: &[u8], records: usize, count: usize, name: TextId) -> Option<usize>
+    requires { (scratch_each * records ≤ length scratch.now) × (count ≤ records) × (name.number < records) }
+    ensures { result ≡ found_of (open_at scratch.now records count name.number name.offset name.len) }
 {
-    let j = index(load(scratch, NAME_SLOTS * records + NAME_SLOT_BYTES * o));
+    let j = index(load(
+        scratch,
+        NAME_SLOTS * records + NAME_SLOT_BYTES * name.number,
+    ));
     if count <= j {
         return None;
     }
-    if entry_is(scratch, records, j, offset, len) {
+    if entry_is(scratch, records, j, name) {
         return Some(j);
     }
     None
@@ -87,15 +83,15 @@ fn variable_at(scratch: &[u8], records: usize, j: usize) -> Known
 
 impl Scope {
     // The variable of this name, in this block or those around it, in any text where the two words tell it from the open ones, and where the slot of its
-    // number o says where it stands.
-    pub fn find_variable(self, scratch: &[u8], o: usize, offset: u32, len: u32) -> Option<Known>
+    // number says where it stands.
+    pub fn find_variable(self, scratch: &[u8], name: TextId) -> Option<Known>
         requires names_room { NamesRoom self scratch.now }
-        requires o_lt_records { o < self.records }
-        ensures { FindsTold scratch.now self o offset len result }
+        requires o_lt_records { name.number < self.records }
+        ensures { FindsTold scratch.now self name.number name.offset name.len result }
     {
         let n = self.records;
         let count = self.names;
-        let j = open_at(scratch, n, count, o, offset, len)?;
+        let j = open_at(scratch, n, count, name)?;
         Some(variable_at(scratch, n, j))
     }
 
@@ -104,26 +100,28 @@ impl Scope {
     pub fn declare(
         self,
         scratch: &mut [u8],
-        o: usize,
-        offset: u32,
-        len: u32,
+        name: TextId,
         v: VarId,
         constant: bool,
     ) -> Option<Scope>
         requires names_room { NamesRoom self scratch.old }
         requires name_afforded { NameAfforded self v }
-        requires o_lt_records { o < self.records }
-        ensures { DeclaresTold o offset len v constant self scratch.old scratch.new result }
+        requires o_lt_records { name.number < self.records }
+        ensures { DeclaresTold name.number name.offset name.len v constant self scratch.old scratch.new result }
     {
         let n = self.records;
         let count = self.names;
         let ty = v.1;
-        if open_at(scratch, n, count, o, offset, len).is_some() {
+        if open_at(scratch, n, count, name).is_some() {
             return None;
         }
-        let w = Four(offset, len, v.0, 2 * ty + mark(constant));
+        let w = Four(name.offset, name.len, v.0, 2 * ty + u32::from(constant));
         put_four(scratch, OPEN_NAMES * n + OPEN_NAME_BYTES * count, w);
-        put_word(scratch, NAME_SLOTS * n + NAME_SLOT_BYTES * o, count as u32);
+        put_word(
+            scratch,
+            NAME_SLOTS * n + NAME_SLOT_BYTES * name.number,
+            count as u32,
+        );
         Some(Scope {
             names: count + 1,
             ..self

@@ -42,7 +42,7 @@ use Rattle.scope.specs.Open.{scope_at}
 use Rattle.keys.specs.Keys.{all_keys}
 use Rattle.expressions.specs.declared.arguments.Argument.{Argument}
 use Rattle.expressions.specs.Slots.{Typed}
-use Rattle.expressions.specs.Answers.{Answer, refusal, callee_of, ArgumentIs, CallMeets}
+use Rattle.expressions.specs.Answers.{OrRefused, refusal, callee_of, ArgumentIs, CallMeets}
 use Rattle.expressions.proofs.SlotLaws.{scope-frame}
 use Rattle.expressions.proofs.TurnLaws.{typed-none, typed-both}
 use Rattle.expressions.proofs.ArgumentTurns.{ValueCell, TypeCell}
@@ -67,17 +67,17 @@ module _ (tree text : List ℕ) (S : Def.Scope) where
 -- a value is three records at least: a list cell, a kind 13 and an expression
 -- ---- the call around its values
 
-pub record CalleeIs (tree text : List ℕ) (a : Answer Code-Callee.Callee) : Type 0 where
+pub record CalleeIs (tree text : List ℕ) (a : OrRefused Code-Callee.Callee) : Type 0 where
   pub to : Callee
   pub is : callee_of tree text a ≡ ok to
 
-pub callee-is : (tree text : List ℕ) {a : Answer Code-Callee.Callee} (g : Code-Callee.Callee) → a ≡ Ok g → CalleeIs tree text a
+pub callee-is : (tree text : List ℕ) {a : OrRefused Code-Callee.Callee} (g : Code-Callee.Callee) → a ≡ Ok g → CalleeIs tree text a
 unfolding callee_of
 callee-is tree text (Code-Callee.Callee.Function f) q = record { to = CallFunction (function_of tree text f); is = ap (callee_of tree text) q }
 callee-is tree text (Code-Callee.Callee.Cast y) q = record { to = CallCast y; is = ap (callee_of tree text) q }
 
 module _ {tree text l s : List ℕ} {c : Converter} {e : ℕ} (p : Converting tree text l s c) (f : ExprAfforded tree text c e) (x : IsKind tree 11 e)
-    {callee : Answer Code-Callee.Callee} {s₁ : List ℕ} (m : CallMeets tree text s c.scope c.turn e callee s₁) where
+    {callee : OrRefused Code-Callee.Callee} {s₁ : List ℕ} (m : CallMeets tree text s c.scope c.turn e callee s₁) where
   abbrev S : Def.Scope
   S = scope_at tree text s c.scope
 

@@ -31,8 +31,8 @@ use Rattle.ir.specs.declared.structs.Counters.{Counters}
 use Rattle.ir.specs.declared.structs.VarId.{VarId}
 use Rattle.ir.specs.declared.structs.Operand.{Operand}
 use Rattle.ir.specs.declared.structs.Operand.TheVariants.{Var as var}
-use Rattle.ir.specs.declared.structs.NewVariable.{NewVariable}
-use Rattle.ir.specs.declared.structs.LabelNumber.{LabelNumber}
+use Rattle.ir.specs.declared.structs.Label.{Label}
+use Rattle.ir.specs.declared.structs.WithCounters.{WithCounters}
 use Rattle.ir.specs.Amounts.{amount}
 use Rattle.ir.specs.Instructions.{operand_of, var_of}
 use Rattle.ir.specs.Steps.{StopsIn, Emits, AddsVar, named, NumbersLabel}
@@ -41,7 +41,7 @@ use Rattle.laws.proofs.FixLaws.{pick_yes, pick_no}
 use Rattle.scope.specs.Open.{scope_at}
 use Rattle.keys.specs.Keys.{all_keys}
 use Rattle.expressions.specs.Slots.{common_in}
-use Rattle.expressions.specs.Answers.{Answer, type_result, common_result, callee_of, IsTyped, IsCommon, IsCallee, SidesMeet}
+use Rattle.expressions.specs.Answers.{OrRefused, type_result, common_result, callee_of, IsTyped, IsCommon, IsCallee, SidesMeet}
 use Rattle.expressions.proofs.TypingLaws.{left-expr, right-expr}
 use Rattle.statements.specs.Lent.{Converter, Converted, Fitted}
 use Rattle.statements.specs.Stack.{operand_at, stack_at}
@@ -59,27 +59,27 @@ use Rattle.statements.proofs.ConvertLaws.{converts-gave, converts-refused, conve
 pub variable_type_lem : {tree : List ℕ} {v y : ℕ} → v ≡ y → TypeAt tree y → TypeAt tree v
 variable_type_lem {tree = tree} e t = subst (λ (x : ℕ). TypeAt tree x) (sym e) t
 
-pub unary-adds : {tree : List ℕ} {op : UnaryOp} {y : ℕ} {src : Ir.Operand} {r : NewVariable} {k k₂ : Counters} {l l₁ l₂ : List ℕ}
-    → length l₁ ≡ length l → AddsVar y k l r l₁ → length l₂ ≡ length l₁ → Emits (Unary (var_of r.var) op src) r.counters l₁ k₂ l₂ → TypeAt tree r.var.1
-    → FitAdds tree (finish_unary op y src) (amount 1 1 0 0 0) k l (record { operand = var r.var; counters = k₂ }) l₂
+pub unary-adds : {tree : List ℕ} {op : UnaryOp} {y : ℕ} {src : Ir.Operand} {r : WithCounters VarId} {k k₂ : Counters} {l l₁ l₂ : List ℕ}
+    → length l₁ ≡ length l → AddsVar y k l r l₁ → length l₂ ≡ length l₁ → Emits (Unary (var_of r.value) op src) r.counters l₁ k₂ l₂ → TypeAt tree r.value.1
+    → FitAdds tree (finish_unary op y src) (amount 1 1 0 0 0) k l (record { operand = var r.value; counters = k₂ }) l₂
 unfolding finish_unary OperandIn
 unary-adds {op = op} {src = src} {r = r} {k₂ = k₂} {l₂ = l₂} h p h' q t = record {
   adds = adds-most (adds_then (λ (dest : Ir.VarId). emit (Unary dest op src) >> pure (OVar dest)) (var_adds h p)
-      (adds_seq (pure (OVar (var_of r.var))) (emit-adds h' q) (adds-pure (OVar (var_of r.var)) k₂ l₂ q.next.room))) (omega arith);
+      (adds_seq (pure (OVar (var_of r.value))) (emit-adds h' q) (adds-pure (OVar (var_of r.value)) k₂ l₂ q.next.room))) (omega arith);
   operand = t;
 }
 
 -- ---- And and Or
 
-pub begin_adds : {e y : ℕ} {r : NewVariable} {a b : LabelNumber} {k : Counters} {l l₁ l₂ l₃ : List ℕ}
+pub begin_adds : {e y : ℕ} {r : WithCounters VarId} {a b : WithCounters Label} {k : Counters} {l l₁ l₂ l₃ : List ℕ}
     → length l₁ ≡ length l → AddsVar y k l r l₁ → length l₂ ≡ length l₁ → NumbersLabel 6 e r.counters l₁ a l₂
     → length l₃ ≡ length l₂ → NumbersLabel 7 e a.counters l₂ b l₃
-    → Adds (begin_logic e y) (amount 0 1 2 0 0) k l (var_of r.var) b.counters l₃
+    → Adds (begin_logic e y) (amount 0 1 2 0 0) k l (var_of r.value) b.counters l₃
 unfolding begin_logic
 begin_adds {e = e} {r = r} {b = b} {l₃ = l₃} h p h₁ q h₂ q₂ =
     adds-most (adds_then (λ (dest : Ir.VarId). label_id (logic_rhs e) >>= (λ (i : ℕ). label_id (logic_end e) >>= (λ (j : ℕ). pure dest))) (var_adds h p)
-    (adds_then (λ (i : ℕ). label_id (logic_end e) >>= (λ (j : ℕ). pure (var_of r.var))) (label_adds h₁ q)
-    (adds_then (λ (j : ℕ). pure (var_of r.var)) (label_adds h₂ q₂) (adds-pure (var_of r.var) b.counters l₃ q₂.next.room)))) (omega arith)
+    (adds_then (λ (i : ℕ). label_id (logic_end e) >>= (λ (j : ℕ). pure (var_of r.value))) (label_adds h₁ q)
+    (adds_then (λ (j : ℕ). pure (var_of r.value)) (label_adds h₂ q₂) (adds-pure (var_of r.value) b.counters l₃ q₂.next.room)))) (omega arith)
 
 module _ (e : ℕ) {dest : VarId} {o : Ir.Operand} {k k₁ k₂ : Counters} {l l₁ l₂ : List ℕ} (h : length l₁ ≡ length l) (p : Emits (Ir.Copy (var_of dest) o) k l k₁ l₁) where
   pub and-adds : Adds (jump_if_not (OVar (var_of dest)) (named 7 e)) (amount 1 0 1 0 0) k₁ l₁ tt k₂ l₂
@@ -119,19 +119,19 @@ module _ (tree : List ℕ) (e : ℕ) {d : ℕ} (dest : VarId) (o : Operand) {k k
 
 -- ---- any other binary
 
-pub binary-adds : {tree : List ℕ} (P : Program) {op : BinaryOp} {y : ℕ} (q : ℕ) (left right : Operand) {a b : Fitted} {r : NewVariable} {k k₄ : Counters} {l l₁ l₂ l₃ l₄ : List ℕ}
+pub binary-adds : {tree : List ℕ} (P : Program) {op : BinaryOp} {y : ℕ} (q : ℕ) (left right : Operand) {a b : Fitted} {r : WithCounters VarId} {k k₄ : Counters} {l l₁ l₂ l₃ l₄ : List ℕ}
     → FitAdds tree (fit_operand P (operand_of left) q) (amount 1 1 0 0 1) k l a l₁
     → FitAdds tree (fit_operand P (operand_of right) q) (amount 1 1 0 0 1) a.counters l₁ b l₂
     → length l₃ ≡ length l₂ → AddsVar y b.counters l₂ r l₃
-    → length l₄ ≡ length l₃ → Emits (Binary (var_of r.var) op (operand_of a.operand) (operand_of b.operand)) r.counters l₃ k₄ l₄ → TypeAt tree r.var.1
-    → FitAdds tree (finish_binary P op y q (operand_of left) (operand_of right)) (amount 3 3 0 0 2) k l (record { operand = var r.var; counters = k₄ }) l₄
+    → length l₄ ≡ length l₃ → Emits (Binary (var_of r.value) op (operand_of a.operand) (operand_of b.operand)) r.counters l₃ k₄ l₄ → TypeAt tree r.value.1
+    → FitAdds tree (finish_binary P op y q (operand_of left) (operand_of right)) (amount 3 3 0 0 2) k l (record { operand = var r.value; counters = k₄ }) l₄
 unfolding finish_binary OperandIn
 binary-adds P {op = op} {y = y} q left right {a = a} {b = b} {r = r} {k₄ = k₄} {l₄ = l₄} u v h p h' i t = record {
   adds = adds-most (adds_then (λ (a1 : Ir.Operand). fit_operand P (operand_of right) q >>= (λ (b1 : Ir.Operand). Ir.new_var y >>= (λ (dest : Ir.VarId).
       emit (Binary dest op a1 b1) >> pure (OVar dest)))) u.adds
       (adds_then (λ (b1 : Ir.Operand). Ir.new_var y >>= (λ (dest : Ir.VarId). emit (Binary dest op (operand_of a.operand) b1) >> pure (OVar dest))) v.adds
       (adds_then (λ (dest : Ir.VarId). emit (Binary dest op (operand_of a.operand) (operand_of b.operand)) >> pure (OVar dest)) (var_adds h p)
-      (adds_seq (pure (OVar (var_of r.var))) (emit-adds h' i) (adds-pure (OVar (var_of r.var)) k₄ l₄ i.next.room))))) (omega arith);
+      (adds_seq (pure (OVar (var_of r.value))) (emit-adds h' i) (adds-pure (OVar (var_of r.value)) k₄ l₄ i.next.room))))) (omega arith);
   operand = t;
 }
 
@@ -147,32 +147,32 @@ module _ {tree text : List ℕ} (good : Good tree text) {e : ℕ} (x : IsKind tr
   pub right_side : {b : ℕ} → b ≡ word_of tree e B → (b < e) × IsExpr tree b
   right_side {b} q = right-expr tree text good e 10 binary-expr (sym x.kind) refl b q
 
-is-common : {tree : List ℕ} {a : Answer (Std.Option ℕ)} {y : ℕ} → IsCommon tree a → a ≡ Ok (Some y) → TypeAt tree y
-is-common {tree = tree} {y = y} t q = go (subst (λ (z : Answer (Std.Option ℕ)). IsCommon tree z) q t)
+is-common : {tree : List ℕ} {a : OrRefused (Std.Option ℕ)} {y : ℕ} → IsCommon tree a → a ≡ Ok (Some y) → TypeAt tree y
+is-common {tree = tree} {y = y} t q = go (subst (λ (z : OrRefused (Std.Option ℕ)). IsCommon tree z) q t)
   where
     go : IsCommon tree (Ok (Some y)) → TypeAt tree y
     go (IsCommon.is h) = h
 
-module _ {tree text s s' : List ℕ} (c : Converter) (e y : ℕ) {t : Answer (Std.Option ℕ)} (m : SidesMeet tree text s c.scope c.turn e t s') where
-  meets_as : (u : Answer ℕ) → operand_type (common_result t) y ≡ type_result u
+module _ {tree text s s' : List ℕ} (c : Converter) (e y : ℕ) {t : OrRefused (Std.Option ℕ)} (m : SidesMeet tree text s c.scope c.turn e t s') where
+  meets_as : (u : OrRefused ℕ) → operand_type (common_result t) y ≡ type_result u
       → operand_type (common_in tree text (scope_at tree text s c.scope) e) y ≡ type_result u
   meets_as u q = ap (λ (z : Result (Option ℕ)). operand_type z y) m.meets ∙ q
 
   pub common-refused : (x : ConvertError) → t ≡ Err x → OperandTyped tree text s c e y (Err x) s'
   unfolding operand_type common_result type_result
-  common-refused x q = record { frame = m.frame; typed = IsTyped.no; meets = meets_as (Err x) (ap (λ (z : Answer (Std.Option ℕ)). operand_type (common_result z) y) q) }
+  common-refused x q = record { frame = m.frame; typed = IsTyped.no; meets = meets_as (Err x) (ap (λ (z : OrRefused (Std.Option ℕ)). operand_type (common_result z) y) q) }
 
   common-is : (z : ℕ) → t ≡ Ok (Some z) → OperandTyped tree text s c e y (Ok z) s'
   unfolding operand_type common_result type_result
   common-is z q = record {
     frame = m.frame;
     typed = IsTyped.is (is-common m.common q);
-    meets = meets_as (Ok z) (ap (λ (z : Answer (Std.Option ℕ)). operand_type (common_result z) y) q);
+    meets = meets_as (Ok z) (ap (λ (z : OrRefused (Std.Option ℕ)). operand_type (common_result z) y) q);
   }
 
   common-neither : t ≡ Ok None → TypeAt tree y → OperandTyped tree text s c e y (Ok y) s'
   unfolding operand_type common_result type_result
-  common-neither q h = record { frame = m.frame; typed = IsTyped.is h; meets = meets_as (Ok y) (ap (λ (z : Answer (Std.Option ℕ)). operand_type (common_result z) y) q) }
+  common-neither q h = record { frame = m.frame; typed = IsTyped.is h; meets = meets_as (Ok y) (ap (λ (z : OrRefused (Std.Option ℕ)). operand_type (common_result z) y) q) }
 
   -- in any case
   pub common-either : (o : Std.Option ℕ) → t ≡ Ok o → TypeAt tree y → OperandTyped tree text s c e y (Ok (Std.unwrap_or o y)) s'
@@ -180,23 +180,23 @@ module _ {tree text s s' : List ℕ} (c : Converter) (e y : ℕ) {t : Answer (St
   common-either None q h = common-neither q h
 
 -- both sides are typed
-module _ {tree text s s' : List ℕ} (c : Converter) (e : ℕ) {t : Answer (Std.Option ℕ)} (m : SidesMeet tree text s c.scope c.turn e t s') where
-  sides_types_lem : (o : Option ℕ) → common_result t ≡ ok o → (u : Answer ℕ) → CommonTyped c e tree text s u s'
+module _ {tree text s s' : List ℕ} (c : Converter) (e : ℕ) {t : OrRefused (Std.Option ℕ)} (m : SidesMeet tree text s c.scope c.turn e t s') where
+  sides_types_lem : (o : Option ℕ) → common_result t ≡ ok o → (u : OrRefused ℕ) → CommonTyped c e tree text s u s'
   sides_types_lem o q u z h = m.adds o q
 
-  is-types : (z : ℕ) → t ≡ Ok (Some z) → (u : Answer ℕ) → CommonTyped c e tree text s u s'
+  is-types : (z : ℕ) → t ≡ Ok (Some z) → (u : OrRefused ℕ) → CommonTyped c e tree text s u s'
   unfolding common_result
   is-types z q u = sides_types_lem (some z) (ap common_result q) u
 
-  neither-types : t ≡ Ok None → (u : Answer ℕ) → CommonTyped c e tree text s u s'
+  neither-types : t ≡ Ok None → (u : OrRefused ℕ) → CommonTyped c e tree text s u s'
   unfolding common_result
   neither-types q u = sides_types_lem none (ap common_result q) u
 
-  pub either-types : (o : Std.Option ℕ) → t ≡ Ok o → (u : Answer ℕ) → CommonTyped c e tree text s u s'
+  pub either-types : (o : Std.Option ℕ) → t ≡ Ok o → (u : OrRefused ℕ) → CommonTyped c e tree text s u s'
   either-types (Some z) q u = is-types z q u
   either-types None q u = neither-types q u
 
-pub refused-common : {X : Type 0} {x : ConvertError} (y : ℕ) → ◌≡◌ {A = Answer ℕ} (Err x) (Ok y) → X
+pub refused-common : {X : Type 0} {x : ConvertError} (y : ℕ) → ◌≡◌ {A = OrRefused ℕ} (Err x) (Ok y) → X
 refused-common y h = let z : ◌≡◌ {A = ℕ} 0 1 = cc in absurd (omega arith)
 
 -- ---- calls
@@ -241,7 +241,7 @@ call-adds {tree = tree} {text = text} {l₁ = l₁} {l₂ = l₂} F e {f = f} {d
     (adds_seq (pure (OVar (var_of dest))) (adds_seq (emit (Call (some (var_of dest)) (function_of tree text f).rec_of)) p i) (adds-pure (OVar (var_of dest)) k₂ l₂ q.next.room))) (omega arith))) t stays names
 
 -- the call behind its values, by what it runs
-module _ (tree text : List ℕ) {callee : Answer Code-Callee.Callee} {to : Callee} (m : callee_of tree text callee ≡ ok to) where
+module _ (tree text : List ℕ) {callee : OrRefused Code-Callee.Callee} {to : Callee} (m : callee_of tree text callee ≡ ok to) where
   pub callee-cast : {y : ℕ} → callee ≡ Ok (Code-Callee.Callee.Cast y) → CallCast y ≡ to
   unfolding callee_of
   callee-cast {y} q = let e : ok (CallCast y) ≡ ok to = sym (ap (callee_of tree text) q) ∙ m in cc
@@ -250,26 +250,26 @@ module _ (tree text : List ℕ) {callee : Answer Code-Callee.Callee} {to : Calle
   unfolding callee_of
   callee-function {f} q = let e : ok (CallFunction (function_of tree text f)) ≡ ok to = sym (ap (callee_of tree text) q) ∙ m in cc
 
-pub function-callee : {tree : List ℕ} {callee : Answer Code-Callee.Callee} {f : ℕ} → IsCallee tree callee → callee ≡ Ok (Code-Callee.Callee.Function f) → FunctionAt tree f
-function-callee {tree = tree} {f = f} t q = go (subst (λ (z : Answer Code-Callee.Callee). IsCallee tree z) q t)
+pub function-callee : {tree : List ℕ} {callee : OrRefused Code-Callee.Callee} {f : ℕ} → IsCallee tree callee → callee ≡ Ok (Code-Callee.Callee.Function f) → FunctionAt tree f
+function-callee {tree = tree} {f = f} t q = go (subst (λ (z : OrRefused Code-Callee.Callee). IsCallee tree z) q t)
   where
     go : IsCallee tree (Ok (Code-Callee.Callee.Function f)) → FunctionAt tree f
     go (IsCallee.a_function h) = h
 
-module _ {tree text l l₁ l₂ s s' : List ℕ} {c : Converter} (e : ℕ) {y count : ℕ} {r : NewVariable} (given : Args) (operands : List Ir.Operand) {to : Callee} {a : Converted}
+module _ {tree text l l₁ l₂ s s' : List ℕ} {c : Converter} (e : ℕ) {y count : ℕ} {r : WithCounters VarId} (given : Args) (operands : List Ir.Operand) {to : Callee} {a : Converted}
     (h : length l₁ ≡ length l) (p : AddsVar y c.counters l r l₁) where
   pub finish-function : (f : ℕ) → CallFunction (function_of tree text f) ≡ to
-      → Converts tree text (call_value (program tree text) (all_keys tree text) e (var_of r.var) given operands (CallFunction (function_of tree text f))) (amount (2 * count + 1) count 0 0 count) (with_counters c r.counters) l₁ s a l₂ s'
+      → Converts tree text (call_value (program tree text) (all_keys tree text) e (var_of r.value) given operands (CallFunction (function_of tree text f))) (amount (2 * count + 1) count 0 0 count) (with_counters c r.counters) l₁ s a l₂ s'
       → Converts tree text (finish_call (program tree text) (all_keys tree text) e y given operands to) (amount (2 * count + 1) (count + 1) 0 0 count) c l s a l₂ s'
   unfolding finish_call
   finish-function f q i =
       converts-most (omega arith) (converts-after (λ (dest : Ir.VarId). call_value (program tree text) (all_keys tree text) e dest given operands to) (var_adds h p)
-      (converts-same (ap (call_value (program tree text) (all_keys tree text) e (var_of r.var) given operands) q) i))
+      (converts-same (ap (call_value (program tree text) (all_keys tree text) e (var_of r.value) given operands) q) i))
 
   pub finish-cast : {z : ℕ} → CallCast z ≡ to
-      → Converts tree text (cast_first e (var_of r.var) operands) (amount 1 0 0 0 0) (with_counters c r.counters) l₁ s a l₂ s'
+      → Converts tree text (cast_first e (var_of r.value) operands) (amount 1 0 0 0 0) (with_counters c r.counters) l₁ s a l₂ s'
       → Converts tree text (finish_call (program tree text) (all_keys tree text) e y given operands to) (amount (2 * count + 1) (count + 1) 0 0 count) c l s a l₂ s'
   unfolding finish_call call_value
   finish-cast q i =
       converts-most (omega arith) (converts-after (λ (dest : Ir.VarId). call_value (program tree text) (all_keys tree text) e dest given operands to) (var_adds h p)
-      (converts-same (ap (call_value (program tree text) (all_keys tree text) e (var_of r.var) given operands) q) i))
+      (converts-same (ap (call_value (program tree text) (all_keys tree text) e (var_of r.value) given operands) q) i))

@@ -30,10 +30,10 @@ use Rattle.statements.specs.Lent.{Converter, Stated, Finished}
 use Rattle.statements.specs.Meets.{AddsIn, texts_of}
 use Rattle.statements.specs.Converting.{Converting, BlockAfforded, StatementAfforded, StaysFor, block_amount, statement_amount, LoopIn}
 use Rattle.statements.specs.Answers.{stated_of, scope_in, block_steps, statement_steps, StatementAs, BlockAs}
-use Rattle.statements.specs.Turns.{Turns, Visited, StatementVisited, BlockVisited}
-use Rattle.statements.proofs.TurnLaws.{turns_refl, visited_stay, visited-next}
+use Rattle.statements.specs.Turns.{Visited, StatementVisited, BlockVisited}
+use Rattle.statements.proofs.TurnLaws.{visited-next}
 use Rattle.statements.proofs.MeetLaws.{meets-gave, meets-refused}
-use Rattle.statements.proofs.StayLaws.{stays_refl, stays_then}
+use Rattle.statements.proofs.StayLaws.{stays_then}
 use Rattle.statements.proofs.BlockLaws.{placed, body_in, body_size}
 
 -- the visits of the block that word w opens
@@ -62,26 +62,6 @@ pub record BlockLeft (tree text l₀ s₀ : List ℕ) (c : Converter) (first : �
   pub seen_is : seen + visits_from tree text w ≡ visits_from tree text first
 
 module _ {tree text l₀ s₀ : List ℕ} {c : Converter} {first : ℕ} (p : Converting tree text l₀ s₀ c) (f : BlockAfforded tree text c first) (x : BodyAt tree first) where
-  pub block_start : Turns tree s₀ c.counters → BlockLeft tree text l₀ s₀ c first l₀ s₀ first c
-  block_start t = record {
-    passed = 0;
-    operands = refl;
-    converting = p;
-    cells = x;
-    low = omega arith;
-    long = refl;
-    stays = stays_refl tree c.scope.names c.operands s₀;
-    least = omega arith;
-    most = omega arith;
-    passed_is = omega arith;
-    spent = omega arith;
-    gives = λ S k l' h. h;
-    stops = λ k r h. h;
-    seen = 0;
-    visited = visited_stay (turns_refl tree s₀) t;
-    seen_is = omega arith;
-  }
-
   module _ {l s : List ℕ} {w : ℕ} {at : Converter} (i : BlockLeft tree text l₀ s₀ c first l s w at) where
     abbrev good : Good tree text
     good = i.converting.ready.keyed.good

@@ -21,7 +21,7 @@ use Rattle.scope.specs.declared.Scope.{Scope}
 use Rattle.scope.specs.Open.{scope_at}
 use Rattle.statements.specs.Lent.{Converter, Stated, Finished}
 use Rattle.statements.specs.Meets.{Adds}
-use Rattle.statements.specs.Converting.{Converting, BehindAfforded, StatementAfforded}
+use Rattle.statements.specs.Converting.{Converting, StatementAfforded}
 use Rattle.statements.specs.Answers.{States, Finishes, stated_of, stated_with}
 use Rattle.statements.specs.Turns.{Turns, Visited, Fresh, InTurn, TypedIn, own_types, head_types, for_types, StatesTyped, FinishesTyped, StatementVisited, FinishedVisited, BlockVisited}
 use Rattle.statements.proofs.TurnLaws.{turns_refl, stay_typed, fresh_begins, fresh_in_turn, turn-over, visited_later, visited-next}
@@ -127,10 +127,6 @@ module _ {tree s s₁ s₂ : List ℕ} {k k₁ : Counters} {n : ℕ} (text : Lis
         subst (λ (z : ℕ). Visited tree s z k' s₂) same (subst (λ (j : Counters). Visited tree s (n + visits_from tree text w) j s₂) done then_steps)
 
 module _ {tree text l s : List ℕ} {c : Converter} {kind r : ℕ} (p : Converting tree text l s c) (x : IsKind tree kind r) (b : Fresh tree s c) where
-  -- nothing was typed in the turn before
-  pub begun-in_turn : BehindAfforded tree text c r → InTurn tree text s c
-  begun-in_turn f = fresh_in_turn b text p.ready.keyed.good.few (omega (arith, b.begun, f.tables.instructions, p.records_are))
-
   -- ---- If and While
 
   module _ {m : M (Unit {0})} {n : Amount} {a : Finished} {k : Counters} {l₁ s₁ : List ℕ} (h : Finishes tree text m tt n c l s a l₁ s₁) (q : a ≡ Finished.Done k)

@@ -29,10 +29,9 @@ use Rattle.conversion.specs.Expressions.{Functions}
 use Rattle.conversion.specs.Statements.{zero_value, convert_declare}
 use Rattle.types.specs.Fits.{IsType}
 use Rattle.ir.specs.declared.structs.Counters.{Counters}
-use Rattle.ir.specs.declared.structs.NewVariable.{NewVariable}
+use Rattle.ir.specs.declared.structs.WithCounters.{WithCounters}
 use Rattle.ir.specs.declared.structs.Operand.{Operand}
 use Rattle.ir.specs.declared.structs.VarId.{VarId}
-use Rattle.ir.specs.declared.pool.PoolNumber.{PoolNumber}
 use Rattle.ir.specs.Amounts.{Amount, amount, both}
 use Rattle.ir.specs.Floats.{entry}
 use Rattle.ir.specs.Instructions.{var_of, operand_of}
@@ -139,24 +138,24 @@ abbrev pub declared_then : {X : Type 0} → List ℕ → List ℕ → ℕ → Bo
 declared_then tree text r constant place y S f =
     new_var y >>= (λ (x : Ir.VarId). lift (declare (record { name = text_of tree text r A; constant = constant; var_id = x }) place S) >>= (λ (sc1 : Def.Scope). f x sc1))
 
-module _ {tree text l s : List ℕ} {c : Converter} (p : Converting tree text l s c) {y : ℕ} {made : NewVariable} {l₁ : List ℕ}
+module _ {tree text l s : List ℕ} {c : Converter} (p : Converting tree text l s c) {y : ℕ} {made : WithCounters VarId} {l₁ : List ℕ}
     (long : length l₁ ≡ length l) (new : AddsVar y c.counters l made l₁) (few : c.scope.names < records tree) (typed : TypeAt tree y) where
   -- the variable's type is the one asked for
-  pub var_typed : TypeAt tree made.var.1
+  pub var_typed : TypeAt tree made.value.1
   var_typed = subst (TypeAt tree) (sym new.typed) typed
 
-  pub var_afforded : NameAfforded c.scope made.var
-  var_afforded = name_afforded p made.var few var_typed
+  pub var_afforded : NameAfforded c.scope made.value
+  var_afforded = name_afforded p made.value few var_typed
 
-  module _ (r : ℕ) (asked : Asked tree text s c.scope r) (constant : Bool) (s' : List ℕ) {d : Std.Option Scope} (m : DeclareMeets text (original_of tree s r) (original_word tree s r A) (original_word tree s r B) made.var constant c.scope s s' d)
+  module _ (r : ℕ) (asked : Asked tree text s c.scope r) (constant : Bool) (s' : List ℕ) {d : Std.Option Scope} (m : DeclareMeets text (original_of tree s r) (original_word tree s r A) (original_word tree s r B) made.value constant c.scope s s' d)
       {X : Type 0} (place : ℕ) (f : Ir.VarId → Def.Scope → M X) where
     pub variable_then : {sc' : Scope} {n : Amount} {l' : List ℕ} {a : StepAnswer X} → d ≡ Some sc'
-        → Meets (texts_of tree text) (f (var_of made.var) (scope_at tree text s' sc')) n made.counters l₁ l' a
+        → Meets (texts_of tree text) (f (var_of made.value) (scope_at tree text s' sc')) n made.counters l₁ l' a
         → Meets (texts_of tree text) (declared_then tree text r constant place y (scope_at tree text s c.scope) f) (both (amount 0 1 0 0 0) n) c.counters l l' a
     variable_then q i =
         meets_then (texts_of tree text) (λ (x : Ir.VarId). lift (declare (record { name = text_of tree text r A; constant = constant; var_id = x }) place (scope_at tree text s c.scope)) >>= (λ (sc1 : Def.Scope). f x sc1))
         long (adds_in (texts_of tree text) (var_adds long new))
-        (meets-lift (texts_of tree text) (λ (sc1 : Def.Scope). f (var_of made.var) sc1) new.next.room (declared_ok p made.var few var_typed r asked constant s' m q place) i)
+        (meets-lift (texts_of tree text) (λ (sc1 : Def.Scope). f (var_of made.value) sc1) new.next.room (declared_ok p made.value few var_typed r asked constant s' m q place) i)
 
     pub variable-not : {n : Amount} {e : ConvertError} → d ≡ None → e ≡ record { kind = AlreadyDeclared; place = place }
         → Meets (texts_of tree text) (declared_then tree text r constant place y (scope_at tree text s c.scope) f) n c.counters l l₁ (refused e)
@@ -164,9 +163,9 @@ module _ {tree text l s : List ℕ} {c : Converter} (p : Converting tree text l 
         meets-refused (texts_of tree text) long
         (then_stop (texts_of tree text) (λ (x : Ir.VarId). lift (declare (record { name = text_of tree text r A; constant = constant; var_id = x }) place (scope_at tree text s c.scope)) >>= (λ (sc1 : Def.Scope). f x sc1))
         (next_in (texts_of tree text) new.next)
-        (stop-first (texts_of tree text) (λ (sc1 : Def.Scope). f (var_of made.var) sc1)
-        (lift-stops (texts_of tree text) (declare (named_by tree text r made.var constant) place (scope_at tree text s c.scope)) made.counters l₁ e.kind e.place
-        (rw w (declared_err p made.var few var_typed r asked constant s' m q place)))))
+        (stop-first (texts_of tree text) (λ (sc1 : Def.Scope). f (var_of made.value) sc1)
+        (lift-stops (texts_of tree text) (declare (named_by tree text r made.value constant) place (scope_at tree text s c.scope)) made.counters l₁ e.kind e.place
+        (rw w (declared_err p made.value few var_typed r asked constant s' m q place)))))
 
 -- the type of a variable that is found is one of the tree's, where those of the open names are
 found_among : (v : Known) (tree text s : List ℕ) (n : ℕ) (u : List ℕ) (m : ℕ) → ((j : ℕ) → j < m → TypeAt tree (word_at s (8 * n + 16 * j + 12) / 2))
@@ -196,13 +195,13 @@ pub least_picks : {X : Type 0} {f n : ℕ} (x y : X) → n ≤ f → y ≡ pick 
 unfolding pick
 least_picks {f = f} {n = n} x y h = rw (le-ltb f n h)
 
-pub zero_float-adds : {k k' : Counters} {l l₁ l' : List ℕ} {e : FloatEntry} {p : PoolNumber} (v : VarId) (short : Bool) → e ≡ entry 0 short → length l₁ ≡ length l
-    → NumbersFloat e k l p l₁ → length l' ≡ length l₁ → Emits (Ir.Copy (var_of v) (Ir.OFloat p.number)) p.counters l₁ k' l'
+pub zero_float-adds : {k k' : Counters} {l l₁ l' : List ℕ} {e : FloatEntry} {p : WithCounters ℕ} (v : VarId) (short : Bool) → e ≡ entry 0 short → length l₁ ≡ length l
+    → NumbersFloat e k l p l₁ → length l' ≡ length l₁ → Emits (Ir.Copy (var_of v) (Ir.OFloat p.value)) p.counters l₁ k' l'
     → Adds (zero_float (var_of v) short) (amount 1 0 0 0 1) k l tt k' l'
 unfolding zero_float
 zero_float-adds {k = k} {l = l} {l₁ = l₁} {p = p} v short q h m d i =
     adds_then (λ (j : ℕ). Ir.emit (Ir.Copy (var_of v) (Ir.OFloat j)))
-    (record { next = subst (λ (x : FloatEntry). Next (Ir.float_id x) k l p.number p.counters l₁) q m.next; spent = m.spent; long = h })
+    (record { next = subst (λ (x : FloatEntry). Next (Ir.float_id x) k l p.value p.counters l₁) q m.next; spent = m.spent; long = h })
     (emit-adds d i)
 
 -- Bool, Char and Byte have the bool, Address and Null the null
@@ -275,21 +274,21 @@ module _ {tree text l s : List ℕ} {c : Converter} (p : Converting tree text l 
   declare-type : TypeAt tree (word_of tree r C)
   declare-type = let k = declare-c tree text p.ready.keyed.good r i.below i.kind in record { below = omega (arith, k.0, i.below); kind = k.1 }
 
-  module _ {y : ℕ} (e : y ≡ word_of tree r C) {made : NewVariable} {l₁ : List ℕ} (long : length l₁ ≡ length l) (new : AddsVar y c.counters l made l₁) where
+  module _ {y : ℕ} (e : y ≡ word_of tree r C) {made : WithCounters VarId} {l₁ : List ℕ} (long : length l₁ ≡ length l) (new : AddsVar y c.counters l made l₁) where
     newly : AddsVar (word_of tree r C) c.counters l made l₁
     newly = subst (λ (z : ℕ). AddsVar z c.counters l made l₁) e new
 
-    pub declare_asks : Asked tree text s c.scope r × NameAfforded c.scope made.var
+    pub declare_asks : Asked tree text s c.scope r × NameAfforded c.scope made.value
     declare_asks = (declare-asked, var_afforded p long newly declare-few declare-type)
 
-    pub zero_asks : RoomFor made.counters l₁ (amount 1 0 0 0 1) × IsType tree made.var.1 × (r < 4294967296)
+    pub zero_asks : RoomFor made.counters l₁ (amount 1 0 0 0 1) × IsType tree made.value.1 × (r < 4294967296)
     zero_asks = (
       record { room = new.next.room; affords = omega (arith, h.tables, new.spent) },
-      as_type tree text p.ready.keyed.good made.var.1 (var_typed p long newly declare-few declare-type),
+      as_type tree text p.ready.keyed.good made.value.1 (var_typed p long newly declare-few declare-type),
       omega (arith, i.below, p.ready.keyed.good.few),
     )
 
-    module _ (s' : List ℕ) {d : Std.Option Scope} (m : DeclareMeets text (original_of tree s r) (original_word tree s r A) (original_word tree s r B) made.var false c.scope s s' d) where
+    module _ (s' : List ℕ) {d : Std.Option Scope} (m : DeclareMeets text (original_of tree s r) (original_word tree s r A) (original_word tree s r B) made.value false c.scope s s' d) where
       pub declare-taken : {z : ConvertError} → d ≡ None → z ≡ record { kind = AlreadyDeclared; place = r }
           → StatesAs declare_steps c r tree text l s (Stated.Refused z) l₁ s'
       unfolding convert_declare program
@@ -297,20 +296,20 @@ module _ {tree text l s : List ℕ} {c : Converter} (p : Converting tree text l 
           let n : Meets (texts_of tree text) (declare_steps tree text s c r) (amount 0 0 0 0 0) c.counters l l₁ (refused z) =
           variable-not p long newly declare-few declare-type r declare-asked false s' m r
           (λ (x : Ir.VarId) (S : Def.Scope). zero_value (program tree text) (all_keys tree text) r x (type_at tree text (word_of tree r C)) >> pure S) q w in
-          states_refused long (n.stops z refl) (taken-stays p made.var declare-few (var_typed p long newly declare-few declare-type) r declare-asked false s' m q)
+          states_refused long (n.stops z refl) (taken-stays p made.value declare-few (var_typed p long newly declare-few declare-type) r declare-asked false s' m q)
 
       pub declare-types : {sc' : Scope} → d ≡ Some sc' → InTurn tree text s c → TypedIn tree text c s [] s'
-      declare-types q u = declared_types p made.var declare-few (var_typed p long newly declare-few declare-type) r declare-asked false s' m q u
+      declare-types q u = declared_types p made.value declare-few (var_typed p long newly declare-few declare-type) r declare-asked false s' m q u
 
       module _ {sc' : Scope} (q : d ≡ Some sc') {l₂ : List ℕ} (a : Finished)
-          (zero : (t : List ℕ) (F : Functions) → Meets (texts_of tree t) (zero_value (program tree t) F r (var_of made.var) (type_at tree t made.var.1)) (amount 1 0 0 0 1) made.counters l₁ l₂ (finished_of tt a)) where
-        zeroed : Meets (texts_of tree text) (zero_value (program tree text) (all_keys tree text) r (var_of made.var) (type_at tree text (word_of tree r C))) (amount 1 0 0 0 1) made.counters l₁ l₂ (finished_of tt a)
+          (zero : (t : List ℕ) (F : Functions) → Meets (texts_of tree t) (zero_value (program tree t) F r (var_of made.value) (type_at tree t made.value.1)) (amount 1 0 0 0 1) made.counters l₁ l₂ (finished_of tt a)) where
+        zeroed : Meets (texts_of tree text) (zero_value (program tree text) (all_keys tree text) r (var_of made.value) (type_at tree text (word_of tree r C))) (amount 1 0 0 0 1) made.counters l₁ l₂ (finished_of tt a)
         zeroed =
-            meets-same (texts_of tree text) (ap (λ (z : ℕ). zero_value (program tree text) (all_keys tree text) r (var_of made.var) (type_at tree text z)) newly.typed)
+            meets-same (texts_of tree text) (ap (λ (z : ℕ). zero_value (program tree text) (all_keys tree text) r (var_of made.value) (type_at tree text z)) newly.typed)
             (zero text (all_keys tree text))
 
         with_name : {n : Amount} {b : StepAnswer Def.Scope}
-            → Meets (texts_of tree text) (zero_value (program tree text) (all_keys tree text) r (var_of made.var) (type_at tree text (word_of tree r C)) >> pure (scope_at tree text s' sc')) n made.counters l₁ l₂ b
+            → Meets (texts_of tree text) (zero_value (program tree text) (all_keys tree text) r (var_of made.value) (type_at tree text (word_of tree r C)) >> pure (scope_at tree text s' sc')) n made.counters l₁ l₂ b
             → Meets (texts_of tree text) (declare_steps tree text s c r) (both (amount 0 1 0 0 0) n) c.counters l l₂ b
         unfolding convert_declare program
         with_name z =
@@ -318,7 +317,7 @@ module _ {tree text l s : List ℕ} {c : Converter} (p : Converting tree text l 
             (λ (x : Ir.VarId) (S : Def.Scope). zero_value (program tree text) (all_keys tree text) r x (type_at tree text (word_of tree r C)) >> pure S) q z
 
         name_stayed : StaysFor tree c s s'
-        name_stayed = declared_stays p made.var declare-few (var_typed p long newly declare-few declare-type) r declare-asked false s' m q
+        name_stayed = declared_stays p made.value declare-few (var_typed p long newly declare-few declare-type) r declare-asked false s' m q
 
         pub declare-refused : {z : ConvertError} → a ≡ Finished.Refused z → StatesAs declare_steps c r tree text l s (Stated.Refused z) l₂ s'
         declare-refused {z = z} w =
@@ -332,7 +331,7 @@ module _ {tree text l s : List ℕ} {c : Converter} (p : Converting tree text l 
             (meets-gave (texts_of tree text) refl (adds_in (texts_of tree text) (adds-pure (scope_at tree text s' sc') k l₂ z.next.room)))) in
             states_most (omega arith) (omega (arith, declare-one))
             (states_gave n.long (n.gives (scope_at tree text s' sc') k refl)
-            (declared_leaves p made.var declare-few (var_typed p long newly declare-few declare-type) r declare-asked false s' m q) name_stayed)
+            (declared_leaves p made.value declare-few (var_typed p long newly declare-few declare-type) r declare-asked false s' m q) name_stayed)
 
 -- ---- the Break or Continue r: the jump of either, which leaves the scope
 
@@ -352,12 +351,6 @@ module _ {tree text l s : List ℕ} {c : Converter} (p : Converting tree text l 
   module _ (o : Std.Option ℕ) (m : loop_of o ≡ loop_number c.scope.inner) where
     loop-is : {x : Option ℕ} → loop_of o ≡ x → scope.in_loop ≡ x
     loop-is q = in_loop_lem tree text s c.scope o m ∙ q
-
-    -- what the jump asks: the loop is one of the records that the tables count
-    pub jump_asks : {x : ℕ} → BehindAfforded tree text c r → o ≡ Some x → RoomFor c.counters l (amount 1 0 1 0 0) × (x < c.counters.records)
-    jump_asks {x = x} f q =
-        let h : x < records tree = p.loop x (sym m ∙ ap loop_of q) in
-        (record { room = p.room; affords = omega (arith, f.tables) }, omega (arith, p.records_are))
 
     module _ (kind : LabelKind) (outside : ConvertErrorKind) where
       pub jump_outside : {z : ConvertError} → o ≡ None → z ≡ record { kind = outside; place = r }

@@ -39,7 +39,7 @@ use Rattle.ir.proofs.Operators.{binary_in_lem}
 use Rattle.scope.specs.Open.{scope_at}
 use Rattle.keys.specs.Keys.{all_keys}
 use Rattle.expressions.specs.Slots.{type_in}
-use Rattle.expressions.specs.Answers.{Answer, refusal, type_result, TypeMeets}
+use Rattle.expressions.specs.Answers.{OrRefused, refusal, type_result, TypeMeets}
 use Rattle.expressions.proofs.SlotLaws.{scope-frame}
 use Rattle.expressions.proofs.TypingLaws.{type-ok, type-refused, expr-low, operand-expr}
 use Rattle.statements.specs.Lent.{Converter, Converted, Fitted}
@@ -105,7 +105,7 @@ part_of {tree = tree} {text = text} {l = l} {l₁ = l₁} {s = s} {s₁ = s₁} 
 
 -- ---- an expression, once it is typed
 
-module _ {tree text l s : List ℕ} {c : Converter} {e : ℕ} (p : Converting tree text l s c) (x : IsExpr tree e) {ty : Answer ℕ} {s₁ : List ℕ}
+module _ {tree text l s : List ℕ} {c : Converter} {e : ℕ} (p : Converting tree text l s c) (x : IsExpr tree e) {ty : OrRefused ℕ} {s₁ : List ℕ}
     (m : TypeMeets tree text s c.scope c.turn e ty s₁) where
   abbrev S : Def.Scope
   S = scope_at tree text s c.scope
@@ -264,7 +264,7 @@ unfolding operand_type E.◌>>=◌
 common-ok (ok o) y q e = record { common = o; is = refl; fitted = cc }
 common-ok (err k r) y q e = let z : ◌≡◌ {A = ℕ} 0 1 = cc in absurd (omega arith)
 
-module _ {tree text l s : List ℕ} {c : Converter} {e y : ℕ} (p : Converting tree text l s c) (x : IsKind tree 10 e) {t : Answer ℕ} {s₁ : List ℕ}
+module _ {tree text l s : List ℕ} {c : Converter} {e y : ℕ} (p : Converting tree text l s c) (x : IsKind tree 10 e) {t : OrRefused ℕ} {s₁ : List ℕ}
     (m : OperandTyped tree text s c e y t s₁) where
   abbrev T : Def.Scope
   T = scope_at tree text s c.scope

@@ -30,9 +30,8 @@ use Rattle.conversion.specs.Statements.{refloat, cast_operand, fit_operand, para
 use Rattle.types.specs.Fits.{fits_at, range_error_at}
 use Rattle.ir.specs.declared.structs.Counters.{Counters}
 use Rattle.ir.specs.declared.structs.VarId.{VarId}
-use Rattle.ir.specs.declared.structs.NewVariable.{NewVariable}
+use Rattle.ir.specs.declared.structs.WithCounters.{WithCounters}
 use Rattle.ir.specs.declared.structs.Operand.{Operand}
-use Rattle.ir.specs.declared.pool.PoolNumber.{PoolNumber}
 use Rattle.ir.specs.declared.floats.FloatBits.{FloatBits}
 use Rattle.ir.specs.Amounts.{Amount, amount}
 use Rattle.ir.specs.Arena.{Room}
@@ -66,27 +65,27 @@ module _ {tree : List ℕ} {k : Counters} {l : List ℕ} where
 
   -- ---- a float that takes another mark, and a variable that is cast
 
-  pub refloat-fits : {l' : List ℕ} (i b : ℕ) (short : Bool) (f : FloatBits) (p : PoolNumber) → length l' ≡ length l
+  pub refloat-fits : {l' : List ℕ} (i b : ℕ) (short : Bool) (f : FloatBits) (p : WithCounters ℕ) → length l' ≡ length l
       → Next (float_bits i) k l b k l → entry_of_float f ≡ entry b short → NumbersFloat (entry_of_float f) k l p l'
-      → FitAdds tree (refloat i short) (amount 0 0 0 0 1) k l (record { operand = Operand.Float p.number; counters = p.counters }) l'
+      → FitAdds tree (refloat i short) (amount 0 0 0 0 1) k l (record { operand = Operand.Float p.value; counters = p.counters }) l'
   unfolding OperandIn
   refloat-fits {l'} i b short f p long q e n = record {
     adds = record {
-      next = refloat-next i short k p.counters l l' b p.number q
-          (subst (λ (x : FloatEntry). Next (float_id x) k l p.number p.counters l') e n.next);
+      next = refloat-next i short k p.counters l l' b p.value q
+          (subst (λ (x : FloatEntry). Next (float_id x) k l p.value p.counters l') e n.next);
       spent = n.spent;
       long = long;
     };
     operand = tt;
   }
 
-  pub cast_fits : {k₂ : Counters} {l₁ l₂ : List ℕ} (v : VarId) (y : ℕ) (made : NewVariable) → length l₂ ≡ length l → AddsVar y k l made l₁
-      → Emits (Ir.Cast (var_of made.var) (OVar (var_of v))) made.counters l₁ k₂ l₂ → made.var.1 ≡ y → TypeAt tree y
-      → FitAdds tree (cast_operand true (var_of v) y) (amount 1 1 0 0 0) k l (record { operand = Operand.Var made.var; counters = k₂ }) l₂
+  pub cast_fits : {k₂ : Counters} {l₁ l₂ : List ℕ} (v : VarId) (y : ℕ) (made : WithCounters VarId) → length l₂ ≡ length l → AddsVar y k l made l₁
+      → Emits (Ir.Cast (var_of made.value) (OVar (var_of v))) made.counters l₁ k₂ l₂ → made.value.1 ≡ y → TypeAt tree y
+      → FitAdds tree (cast_operand true (var_of v) y) (amount 1 1 0 0 0) k l (record { operand = Operand.Var made.value; counters = k₂ }) l₂
   unfolding OperandIn
   cast_fits {k₂} {l₁} {l₂} v y made long a e typed t = record {
     adds = record {
-      next = cast-next (var_of v) (var_of made.var) y k made.counters k₂ l l₁ l₂ a.next e.next;
+      next = cast-next (var_of v) (var_of made.value) y k made.counters k₂ l l₁ l₂ a.next e.next;
       spent = both-spent a.spent e.spent;
       long = long;
     };

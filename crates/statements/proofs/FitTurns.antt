@@ -66,13 +66,6 @@ pub record EmitLeft (s : List ℕ) (n first count : ℕ) (k₀ : Counters) (l₀
   pub rest : (k' : Counters) (l' : List ℕ) → Adds (emit_args (stack_at s n (first + j) (count - j))) (amount (count - j) 0 0 0 0) k l tt k' l'
       → Adds (emit_args (stack_at s n first count)) (amount count 0 0 0 0) k₀ l₀ tt k' l'
 
-pub emit_start : (s : List ℕ) (n first count : ℕ) (k : Counters) (l : List ℕ) → RoomFor k l (amount count 0 0 0 0) → EmitLeft s n first count k l 0 k l
-emit_start s n first count k l h = record {
-  most = omega arith;
-  room = record { room = h.room; affords = omega (arith, h.affords) };
-  rest = λ k' l' a. adds-most (adds_same (ap emit_args (whole s n first count)) a) (omega arith);
-}
-
 module _ (s : List ℕ) (n first count : ℕ) (k₀ : Counters) (l₀ : List ℕ) (j : ℕ) (k : Counters) (l : List ℕ) (x : EmitLeft s n first count k₀ l₀ j k l) where
   pub emit-turn : j < count → (o : Ir.Operand) → o ≡ operand_at s n (first + j) → (k₁ : Counters) (l₁ : List ℕ) → length l₁ ≡ length l
       → Emits (Arg o) k l k₁ l₁ → EmitLeft s n first count k₀ l₀ (j + 1) k₁ l₁

@@ -33,7 +33,7 @@ use Rattle.conversion.proofs.MonadLaws.{seq_is, pure-first}
 use Rattle.types.specs.Fits.{IsType}
 use Rattle.types.proofs.FromGood.{is-type}
 use Rattle.ir.specs.declared.structs.Counters.{Counters}
-use Rattle.ir.specs.declared.structs.NewVariable.{NewVariable}
+use Rattle.ir.specs.declared.structs.WithCounters.{WithCounters}
 use Rattle.ir.specs.declared.structs.VarId.{VarId}
 use Rattle.ir.specs.Amounts.{Amount, amount, both}
 use Rattle.ir.specs.Instructions.{var_of}
@@ -49,7 +49,7 @@ use Rattle.keys.specs.Keys.{all_keys}
 use Rattle.texts.specs.Texts.{has_text}
 use Rattle.expressions.specs.Slots.{original_of, original_word, Asked, Ready, Scoped, type_in}
 use Rattle.expressions.proofs.OriginalLaws.{kind-asked}
-use Rattle.expressions.specs.Answers.{Answer, refusal, outcome_of, TypeMeets}
+use Rattle.expressions.specs.Answers.{OrRefused, refusal, outcome_of, TypeMeets}
 use Rattle.expressions.proofs.SlotLaws.{scope-frame, frame_trans}
 use Rattle.expressions.proofs.TypingLaws.{type-ok, type-refused, is-typed, expr-low, place_is}
 use Rattle.statements.specs.Lent.{Converter, Stated, Finished, ForVariable}
@@ -110,7 +110,7 @@ abbrev bounds_at : List ℕ → List ℕ → List ℕ → Scope → ℕ → ℕ 
 bounds_at tree text s sc r y =
     for_bounds (program tree text) (all_keys tree text) y (expr_at tree text (word_of tree r B)) (expr_at tree text (word_of tree r C)) (scope_at tree text s sc)
 
-module _ {tree text s s₁ : List ℕ} {turn : ℕ} {sc : Scope} {e : ℕ} {t : Answer ℕ} (y : ℕ) (p : Ready tree text s sc) (is : IsExpr tree e) (m : TypeMeets tree text s sc turn e t s₁) where
+module _ {tree text s s₁ : List ℕ} {turn : ℕ} {sc : Scope} {e : ℕ} {t : OrRefused ℕ} (y : ℕ) (p : Ready tree text s sc) (is : IsExpr tree e) (m : TypeMeets tree text s sc turn e t s₁) where
   pub bound_asks : {q : ℕ} → TypeAt tree y → t ≡ Ok q → IsExpr tree e × IsType tree q × IsType tree y × (e < 4294967296) × (e < 4294967296)
   bound_asks {q} h w =
       let good = p.keyed.good in
@@ -128,7 +128,7 @@ module _ {tree text s s₁ : List ℕ} {turn : ℕ} {sc : Scope} {e : ℕ} {t : 
     frame = m.frame;
   }
 
-  pub bound_is : {q : ℕ} {a : Answer (Unit {0})} → t ≡ Ok q
+  pub bound_is : {q : ℕ} {a : OrRefused (Unit {0})} → t ≡ Ok q
       → ((u : List ℕ) (F : Functions) → check_fits (program tree u) F (expr_at tree u e) q y NotInteger e ≡ lift (outcome_of a))
       → Checks tree (bound_at tree text s sc e y) s a s₁
   unfolding check_bound type_in
@@ -140,7 +140,7 @@ module _ {tree text s s₁ : List ℕ} {turn : ℕ} {sc : Scope} {e : ℕ} {t : 
   }
 
 -- both bounds, before either is converted
-module _ (tree text s : List ℕ) (sc : Scope) (r y : ℕ) {s₁ : List ℕ} {b : ℕ} {o : Answer (Unit {0})} (eb : b ≡ word_of tree r B) (m : Checks tree (bound_at tree text s sc b y) s o s₁) where
+module _ (tree text s : List ℕ) (sc : Scope) (r y : ℕ) {s₁ : List ℕ} {b : ℕ} {o : OrRefused (Unit {0})} (eb : b ≡ word_of tree r B) (m : Checks tree (bound_at tree text s sc b y) s o s₁) where
   first-is : bound_at tree text s sc (word_of tree r B) y ≡ lift (outcome_of o)
   first-is = ap (λ (z : ℕ). bound_at tree text s sc z y) (sym eb) ∙ m.meets
 
@@ -150,17 +150,17 @@ module _ (tree text s : List ℕ) (sc : Scope) (r y : ℕ) {s₁ : List ℕ} {b 
   pub bounds_not : {x : ConvertError} → o ≡ Err x → Checks tree (bounds_at tree text s sc r y) s (Err x) s₁
   unfolding for_bounds outcome_of refusal
   bounds_not {x} w = record {
-    meets = ap (λ (z : M (Unit {0})). z >> second) (first-is ∙ ap (λ (z : Answer (Unit {0})). lift (outcome_of z)) w)
+    meets = ap (λ (z : M (Unit {0})). z >> second) (first-is ∙ ap (λ (z : OrRefused (Unit {0})). lift (outcome_of z)) w)
         ∙ seq_is (lift (outcome_of (Err x))) second
         ∙ lift-not (outcome_of (Err x)) (λ (u : Unit {0}). second) x.kind x.place refl;
     frame = m.frame;
   }
 
-  pub bounds_then : {d : ℕ} {a : Answer (Unit {0})} {s₂ : List ℕ} → Scoped tree s sc → o ≡ Ok tt → d ≡ word_of tree r C
+  pub bounds_then : {d : ℕ} {a : OrRefused (Unit {0})} {s₂ : List ℕ} → Scoped tree s sc → o ≡ Ok tt → d ≡ word_of tree r C
       → Checks tree (bound_at tree text s₁ sc d y) s₁ a s₂ → Checks tree (bounds_at tree text s sc r y) s a s₂
   unfolding for_bounds outcome_of
   bounds_then er w ed n = record {
-    meets = ap (λ (z : M (Unit {0})). z >> second) (first-is ∙ ap (λ (z : Answer (Unit {0})). lift (outcome_of z)) w)
+    meets = ap (λ (z : M (Unit {0})). z >> second) (first-is ∙ ap (λ (z : OrRefused (Unit {0})). lift (outcome_of z)) w)
         ∙ seq_is (lift (outcome_of (Ok tt))) second
         ∙ lift_then (outcome_of (Ok tt)) (λ (u : Unit {0}). second) tt refl
         ∙ ap (λ (S : Def.Scope). check_bound (program tree text) (all_keys tree text) (expr_at tree text (word_of tree r C)) y S) (sym (scope-frame tree s s₁ m.frame text sc er))
@@ -169,11 +169,11 @@ module _ (tree text s : List ℕ) (sc : Scope) (r y : ℕ) {s₁ : List ℕ} {b 
   }
 
 -- a refusal owes nothing
-pub refused_outcome : {X : Type 0} {x : ConvertError} → ◌≡◌ {A = Answer (Unit {0})} (Err x) (Ok (tt {0})) → X
+pub refused_outcome : {X : Type 0} {x : ConvertError} → ◌≡◌ {A = OrRefused (Unit {0})} (Err x) (Ok (tt {0})) → X
 refused_outcome q = let z : ◌≡◌ {A = ℕ} 0 1 = cc in absurd (omega arith)
 
 -- what a check types in a turn, and then more of the turn
-module _ {tree text s s₁ : List ℕ} (c : Converter) {m : M (Unit {0})} {o : Answer (Unit {0})} {a : List ℕ} (er : Scoped tree s c.scope) (b : Checks tree m s o s₁)
+module _ {tree text s s₁ : List ℕ} (c : Converter) {m : M (Unit {0})} {o : OrRefused (Unit {0})} {a : List ℕ} (er : Scoped tree s c.scope) (b : Checks tree m s o s₁)
     (t : o ≡ Ok tt → TypedIn tree text c s a s₁) (d : o ≡ Ok tt) where
   checked_scope : scope_at tree text s₁ c.scope ≡ scope_at tree text s c.scope
   checked_scope = scope-frame tree s s₁ b.frame text c.scope er
@@ -184,7 +184,7 @@ module _ {tree text s s₁ : List ℕ} (c : Converter) {m : M (Unit {0})} {o : A
   pub checked_next : {e s₂ : List ℕ} → TypedIn tree text c s₁ e s₂ → TypedIn tree text c s (a ++ e) s₂
   checked_next u = typed-next c checked_scope (t d) u
 
-pub bounds_typed : {tree text s s₁ s₂ : List ℕ} (c : Converter) (r : ℕ) {b d : ℕ} {m : M (Unit {0})} {o a : Answer (Unit {0})} → Scoped tree s c.scope → Checks tree m s o s₁
+pub bounds_typed : {tree text s s₁ s₂ : List ℕ} (c : Converter) (r : ℕ) {b d : ℕ} {m : M (Unit {0})} {o a : OrRefused (Unit {0})} → Scoped tree s c.scope → Checks tree m s o s₁
     → ChecksTyped bound_types c b tree text s o s₁ → o ≡ Ok tt → b ≡ word_of tree r B → d ≡ word_of tree r C → ChecksTyped bound_types c d tree text s₁ a s₂
     → ChecksTyped bounds_types c r tree text s a s₂
 bounds_typed {tree} {text} {s} {s₂ = s₂} c r {b} {d} er m t w eb ed u q =
@@ -281,11 +281,11 @@ module _ {tree text l s : List ℕ} {c : Converter} {r v : ℕ} (p : Converting 
   few : c.scope.names < records tree
   few = omega (arith, for_records p.ready.keyed.good is, afforded.names)
 
-  module _ {y : ℕ} {made : NewVariable} {l₁ : List ℕ} (ey : y ≡ word_of tree v C) (long : length l₁ ≡ length l) (new : AddsVar y c.counters l made l₁) where
+  module _ {y : ℕ} {made : WithCounters VarId} {l₁ : List ℕ} (ey : y ≡ word_of tree v C) (long : length l₁ ≡ length l) (new : AddsVar y c.counters l made l₁) where
     typed : TypeAt tree y
     typed = subst (λ (z : ℕ). TypeAt tree z) (sym ey) t
 
-    pub declare_asks : Asked tree text s c.scope v × NameAfforded c.scope made.var
+    pub declare_asks : Asked tree text s c.scope v × NameAfforded c.scope made.value
     declare_asks = (asked, var_afforded p long new few typed)
 
     abbrev declared : Ir.VarId → Def.Scope → M (Ir.VarId × Def.Scope)
@@ -298,31 +298,31 @@ module _ {tree text l s : List ℕ} {c : Converter} {r v : ℕ} (p : Converting 
         ∙ rw (pick_no (eqb (word_of tree v C) none) nothing (some (word_of tree v C)) (ne_eqb (word_of tree v C) none (λ e. omega (arith, t.below, p.ready.keyed.good.few))))
         (ap (λ (z : ℕ). declared_then tree text v false r z (scope_in tree text s c) declared) (sym ey)))
 
-    module _ (s' : List ℕ) {d : Std.Option Scope} (m : DeclareMeets text (original_of tree s v) (original_word tree s v A) (original_word tree s v B) made.var false c.scope s s' d) where
+    module _ (s' : List ℕ) {d : Std.Option Scope} (m : DeclareMeets text (original_of tree s v) (original_word tree s v A) (original_word tree s v B) made.value false c.scope s s' d) where
       pub for_taken : {e : ConvertError} → d ≡ None → e ≡ record { kind = AlreadyDeclared; place = r }
           → FindsVariable tree text (for_variable_steps tree text s c r) c l s (ForVariable.Refused e) l₁ s'
       for_taken q w = record {
         meets = meets-same (texts_of tree text) declared_steps (variable-not p long new few typed v asked false s' m r declared q w);
         variable = λ x sc k e. let z : ◌≡◌ {A = ℕ} 0 1 = cc in absurd (omega arith);
-        stays = taken-stays p made.var few (var_typed p long new few typed) v asked false s' m q;
+        stays = taken-stays p made.value few (var_typed p long new few typed) v asked false s' m q;
       }
 
       pub for_done : {sc : Scope} → d ≡ Some sc
-          → FindsVariable tree text (for_variable_steps tree text s c r) c l s (ForVariable.Is made.var sc made.counters) l₁ s'
+          → FindsVariable tree text (for_variable_steps tree text s c r) c l s (ForVariable.Is made.value sc made.counters) l₁ s'
       for_done {sc} q = variable-gave long
           ((meets-same (texts_of tree text) declared_steps (variable_then p long new few typed v asked false s' m r declared q
-          (meets-gave (texts_of tree text) refl (adds_in (texts_of tree text) (adds-pure (var_of made.var, scope_at tree text s' sc) made.counters l₁ new.next.room))))
-          ).gives (var_of made.var, scope_at tree text s' sc) made.counters refl)
-          (var_typed p long new few typed) (declared_leaves p made.var few (var_typed p long new few typed) v asked false s' m q)
-          (declared_stays p made.var few (var_typed p long new few typed) v asked false s' m q)
+          (meets-gave (texts_of tree text) refl (adds_in (texts_of tree text) (adds-pure (var_of made.value, scope_at tree text s' sc) made.counters l₁ new.next.room))))
+          ).gives (var_of made.value, scope_at tree text s' sc) made.counters refl)
+          (var_typed p long new few typed) (declared_leaves p made.value few (var_typed p long new few typed) v asked false s' m q)
+          (declared_stays p made.value few (var_typed p long new few typed) v asked false s' m q)
 
-      pub declared_none : {sc : Scope} → d ≡ Some sc → InTurn tree text s c → VariableTyped c tree text s (ForVariable.Is made.var sc made.counters) s'
-      declared_none q u x sc k e = declared_types p made.var few (var_typed p long new few typed) v asked false s' m q u
+      pub declared_none : {sc : Scope} → d ≡ Some sc → InTurn tree text s c → VariableTyped c tree text s (ForVariable.Is made.value sc made.counters) s'
+      declared_none q u x sc k e = declared_types p made.value few (var_typed p long new few typed) v asked false s' m q u
 
 -- ---- the turns: x is the variable
 
 -- what is only checked leaves the tables
-pub checks_converting : {tree text l s s₁ : List ℕ} {c : Converter} {m : M (Unit {0})} {o : Answer (Unit {0})} → Converting tree text l s c → Checks tree m s o s₁ → Converting tree text l s₁ c
+pub checks_converting : {tree text l s s₁ : List ℕ} {c : Converter} {m : M (Unit {0})} {o : OrRefused (Unit {0})} → Converting tree text l s c → Checks tree m s o s₁ → Converting tree text l s₁ c
 checks_converting p b = converting_frame p b.frame
 
 module _ {tree text l s : List ℕ} {c : Converter} (x : VarId) (r : ℕ) (p : Converting tree text l s c) {f : ℕ} (ef : f ≡ detail_of tree x.1 % 16) where
@@ -342,7 +342,7 @@ module _ {tree text l s : List ℕ} {c : Converter} (x : VarId) (r : ℕ) (p : C
       (stop-of (no_int (type_at tree text x.1) (fail NotInteger r) marked ((forms_are tree text x.1 f ef).0 ∙ ne_eqb f 1 h)) (fails_as (texts_of tree text) w))
       (stays_refl tree c.scope.names c.operands s)
 
-  module _ (i : f ≡ 1) {o : Answer (Unit {0})} {s₁ : List ℕ} (b : Checks tree (for_bounds_steps tree text s c r x.1) s o s₁) where
+  module _ (i : f ≡ 1) {o : OrRefused (Unit {0})} {s₁ : List ℕ} (b : Checks tree (for_bounds_steps tree text s c r x.1) s o s₁) where
     int_steps : for_turns_steps tree text s c x r ≡ lift (outcome_of o) >> turns
     unfolding for_turns program
     int_steps =
@@ -356,7 +356,7 @@ module _ {tree text l s : List ℕ} {c : Converter} (x : VarId) (r : ℕ) (p : C
         → Finishes tree text (for_turns_steps tree text s c x r) tt n c l s (Finished.Refused e) l s₁
     unfolding outcome_of refusal
     turns_bounds_not {e = e} w = finishes_refused refl
-        (stop-of (int_steps ∙ ap (λ (z : Answer (Unit {0})). lift (outcome_of z) >> turns) w)
+        (stop-of (int_steps ∙ ap (λ (z : OrRefused (Unit {0})). lift (outcome_of z) >> turns) w)
         (stop_seq (texts_of tree text) turns (lift-stops (texts_of tree text) (outcome_of (Err e)) c.counters l e.kind e.place refl))) bounds_stay
 
     module _ (d : o ≡ Ok tt) {n₁ : Amount} {a : Finished} {l₂ s₂ : List ℕ} (g : Finishes tree text (for_begin_steps tree text s₁ c x r) tt n₁ c l s₁ a l₂ s₂) where
@@ -367,7 +367,7 @@ module _ {tree text l s : List ℕ} {c : Converter} (x : VarId) (r : ℕ) (p : C
           → Meets (texts_of tree text) (for_turns_steps tree text s c x r) n c.counters l l₃ y
       unfolding outcome_of
       from_begin q =
-          meets-same (texts_of tree text) (sym (int_steps ∙ ap (λ (z : Answer (Unit {0})). lift (outcome_of z) >> turns) d ∙ seq_is (lift (outcome_of (Ok tt))) turns))
+          meets-same (texts_of tree text) (sym (int_steps ∙ ap (λ (z : OrRefused (Unit {0})). lift (outcome_of z) >> turns) d ∙ seq_is (lift (outcome_of (Ok tt))) turns))
           (meets-lift (texts_of tree text) (λ (u : Unit {0}). turns) p.room refl
           (meets-same (texts_of tree text) (ap (λ (S : Def.Scope). for_begin (program tree text) (all_keys tree text) r (var_of x) (bit 16 (detail_of tree x.1)) (bit 32 (detail_of tree x.1)) (expr_at tree text (word_of tree r B)) S >> for_test_steps tree text s c x r) begin_scope) q))
 
@@ -389,7 +389,7 @@ module _ {tree text l s : List ℕ} {c : Converter} (x : VarId) (r : ℕ) (p : C
       }
 
 -- in one turn
-module _ {tree text l s s₁ l₂ s₂ : List ℕ} {c : Converter} {m m' : M (Unit {0})} {n : Amount} {o : Answer (Unit {0})} {a : Finished} {k : Counters} (r : ℕ) (p : Converting tree text l s c)
+module _ {tree text l s s₁ l₂ s₂ : List ℕ} {c : Converter} {m m' : M (Unit {0})} {n : Amount} {o : OrRefused (Unit {0})} {a : Finished} {k : Counters} (r : ℕ) (p : Converting tree text l s c)
     (b : Checks tree m s o s₁) (g : Finishes tree text m' tt n c l s₁ a l₂ s₂) (u : FinishesTyped for_begin_types c r tree text s₁ a s₂) (w : a ≡ Finished.Done k) where
   test-scope : scope_in tree text s₂ c ≡ scope_in tree text s₁ c
   test-scope = scope_later (checks_converting p b) g.stays

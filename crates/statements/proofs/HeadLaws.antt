@@ -29,13 +29,13 @@ use Rattle.types.proofs.FromGood.{is_expr_lem}
 use Rattle.ir.specs.declared.structs.Counters.{Counters}
 use Rattle.ir.specs.declared.structs.VarId.{VarId}
 use Rattle.ir.specs.declared.structs.Operand.{Operand}
-use Rattle.ir.specs.declared.structs.NewVariable.{NewVariable}
+use Rattle.ir.specs.declared.structs.WithCounters.{WithCounters}
 use Rattle.ir.specs.Amounts.{Amount, amount, both}
 use Rattle.ir.specs.Instructions.{operand_of, var_of}
 use Rattle.ir.specs.Steps.{Emits, AddsVar, named}
 use Rattle.ir.proofs.StepLaws.{next_in}
 use Rattle.statements.specs.Lent.{Converter, Converted, Finished, Fitted}
-use Rattle.statements.specs.Converting.{Converting, with_counters, RoomFor, OperandIn, expr_amount, head_amount, turns_amount, ExprAfforded, BehindAfforded, BoundAfforded}
+use Rattle.statements.specs.Converting.{Converting, with_counters, RoomFor, expr_amount, head_amount, turns_amount, ExprAfforded, BehindAfforded, BoundAfforded}
 use Rattle.statements.specs.Meets.{Adds, texts_of}
 use Rattle.statements.specs.Parts.{emit_jump, jump_if_not, place_label, copy_fitted, count_on, test_bound, if_head, while_head, for_begin, for_test, if_middle, loop_back}
 use Rattle.statements.specs.Answers.{FitAdds, Converts, Finishes, expr_steps, cond_steps, if_head_steps, while_head_steps, for_begin_steps, for_test_steps}
@@ -87,18 +87,18 @@ count-adds r {x = x} {s = s} {u = u} es eu a b h p d =
     (adds_seq (place_label (loop_check r)) (one_more x es eu h p) d))) (omega arith)
 
 -- the second bound fitted, whether the variable is below it, and the jump
-pub test-adds : {tree : List ℕ} (P : Program) (r : ℕ) {x : VarId} (b : Operand) {a : Fitted} {v : NewVariable} {k k₃ k₄ : Counters} {l l₁ l₂ l₃ l₄ : List ℕ}
+pub test-adds : {tree : List ℕ} (P : Program) (r : ℕ) {x : VarId} (b : Operand) {a : Fitted} {v : WithCounters VarId} {k k₃ k₄ : Counters} {l l₁ l₂ l₃ l₄ : List ℕ}
     → FitAdds tree (fit_operand P (operand_of b) x.1) (amount 1 1 0 0 1) k l a l₁
     → length l₂ ≡ length l₁ → AddsVar 6 a.counters l₁ v l₂
-    → length l₃ ≡ length l₂ → Emits (Binary (var_of v.var) Lt (OVar (var_of x)) (operand_of a.operand)) v.counters l₂ k₃ l₃
-    → Adds (jump_if_not (OVar (var_of v.var)) (named 2 r)) (amount 1 0 1 0 0) k₃ l₃ tt k₄ l₄
+    → length l₃ ≡ length l₂ → Emits (Binary (var_of v.value) Lt (OVar (var_of x)) (operand_of a.operand)) v.counters l₂ k₃ l₃
+    → Adds (jump_if_not (OVar (var_of v.value)) (named 2 r)) (amount 1 0 1 0 0) k₃ l₃ tt k₄ l₄
     → Adds (test_bound P r (var_of x) (operand_of b)) (amount 3 2 1 0 1) k l tt k₄ l₄
 unfolding test_bound
 test-adds P r {x = x} b {a = a} {v = v} u h p h' i j =
     adds-most (adds_then (λ (b1 : Ir.Operand). Ir.new_var bool_type >>= (λ (cond : Ir.VarId).
     emit (Binary cond Lt (OVar (var_of x)) b1) >> jump_if_not (OVar cond) (loop_end r))) u.adds
     (adds_then (λ (cond : Ir.VarId). emit (Binary cond Lt (OVar (var_of x)) (operand_of a.operand)) >> jump_if_not (OVar cond) (loop_end r)) (var_adds h p)
-    (adds_seq (jump_if_not (OVar (var_of v.var)) (loop_end r)) (emit-adds h' i) j))) (omega arith)
+    (adds_seq (jump_if_not (OVar (var_of v.value)) (loop_end r)) (emit-adds h' i) j))) (omega arith)
 
 -- ---- the condition of an If or a While, and a bound of a For
 
@@ -264,15 +264,8 @@ module _ {tree text l s : List ℕ} {c : Converter} (r n : ℕ) {e : ℕ} (p : C
 
   module _ {a : Converted} {l₁ s₁ : List ℕ} (i : Converts tree text (expr_steps tree text s c e) (expr_amount (under (expr_at tree text e))) c l s a l₁ s₁)
       {o : Operand} {k : Counters} (w : a ≡ Converted.Is o k) where
-    -- what the bound itself leaves of the part's amount
-    pub bound_room : {n₂ : Amount} → Most (both (expr_amount (under (expr_at tree text e))) n₂) (turns_amount (under (expr_at tree text e))) → RoomFor k l₁ n₂
-    bound_room h = record { room = (converted-next i w).next.room; affords = omega (arith, f.tables, same-under tree text q, (converted-next i w).spent, h) }
-
     pub count_room : {m : M (Unit {0})} {k₁ : Counters} {l₂ : List ℕ} → Adds m (amount 2 1 0 0 1) k l₁ tt k₁ l₂ → RoomFor k₁ l₂ (amount 4 0 3 0 0)
     count_room g = record { room = g.next.room; affords = omega (arith, f.tables, same-under tree text q, (converted-next i w).spent, g.spent) }
-
-    pub bound_operand : OperandIn tree (operand_of o)
-    bound_operand = i.operand o k w
 
 -- a For up to its check, behind its first bound
 abbrev begins : List ℕ → List ℕ → ℕ → VarId → Ir.Operand → M (Unit {0})

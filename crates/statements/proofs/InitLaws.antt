@@ -38,7 +38,7 @@ use Rattle.types.proofs.FromGood.{is_expr_lem}
 use Rattle.ir.specs.declared.structs.Counters.{Counters}
 use Rattle.ir.specs.declared.structs.VarId.{VarId}
 use Rattle.ir.specs.declared.structs.Operand.{Operand}
-use Rattle.ir.specs.declared.structs.NewVariable.{NewVariable}
+use Rattle.ir.specs.declared.structs.WithCounters.{WithCounters}
 use Rattle.ir.specs.Amounts.{Amount, amount}
 use Rattle.ir.specs.Instructions.{operand_of, var_of}
 use Rattle.ir.specs.Steps.{Emits, AddsVar}
@@ -50,7 +50,7 @@ use Rattle.scope.specs.declared.Known.{Known}
 use Rattle.scope.specs.Open.{NameAfforded, scope_at, FindMeets, DeclareMeets}
 use Rattle.scope.proofs.ScopeLaws.{find_some, find_unknown}
 use Rattle.keys.specs.Keys.{all_keys}
-use Rattle.expressions.specs.Answers.{Answer, outcome_of, IsTyped, TypeMeets}
+use Rattle.expressions.specs.Answers.{OrRefused, outcome_of, IsTyped, TypeMeets}
 use Rattle.expressions.proofs.OperandLaws.{first-type, type_of_lem}
 use Rattle.expressions.proofs.TypingLaws.{is-typed}
 use Rattle.expressions.proofs.TurnLaws.{typed-same}
@@ -108,7 +108,7 @@ module _ {tree text : List ℕ} (good : Good tree text) {r : ℕ} (x : IsKind tr
   value_afforded f = omega (arith, f, value-records)
 
   -- what checking asks, where the value has a type and the variable's is one
-  pub value_checks : {ty : Answer ℕ} {y expected : ℕ} → IsTyped tree ty → ty ≡ Ok y → TypeAt tree expected
+  pub value_checks : {ty : OrRefused ℕ} {y expected : ℕ} → IsTyped tree ty → ty ≡ Ok y → TypeAt tree expected
       → IsExpr tree e × IsType tree y × IsType tree expected × (e < 4294967296) × (r < 4294967296)
   value_checks {ty} {y} {expected} t w q =
       (value-expr, type_of_lem tree text good y (is-typed tree ty y t w), type_of_lem tree text good expected q, omega (arith, value-expr.inside, good.few), omega (arith, x.below, good.few))
@@ -142,7 +142,7 @@ module _ {tree text l s : List ℕ} {c : Converter} {r : ℕ} (p : Converting tr
     pub assign-turn : InTurn tree text s₁ c
     assign-turn = in_turn-next c (scope_later p m.stays) u
 
-    pub assign_types_lem : {ty : Answer ℕ} {y : ℕ} {s₂ : List ℕ} → TypeMeets tree text s₁ c.scope c.turn e ty s₂ → ty ≡ Ok y → TypedIn tree text c s (assign_types tree text r) s₂
+    pub assign_types_lem : {ty : OrRefused ℕ} {y : ℕ} {s₂ : List ℕ} → TypeMeets tree text s₁ c.scope c.turn e ty s₂ → ty ≡ Ok y → TypedIn tree text c s (assign_types tree text r) s₂
     assign_types_lem {y = y} {s₂ = s₂} t w =
         subst (λ (z : ℕ). TypedIn tree text c s (expr_types tree text z ++ exprs (expr_at tree text z)) s₂) ee (typed-next c (scope_later p m.stays) u (t.adds y w))
 
@@ -156,7 +156,7 @@ module _ {tree text l s : List ℕ} {c : Converter} {r : ℕ} (p : Converting tr
       affords = omega (arith, f.tables, value-records p.ready.keyed.good x ee, (converted-next m q).spent);
     }
 
-    module _ {ty : Answer ℕ} {s₂ : List ℕ} (t : TypeMeets tree text s₁ c.scope c.turn e ty s₂) where
+    module _ {ty : OrRefused ℕ} {s₂ : List ℕ} (t : TypeMeets tree text s₁ c.scope c.turn e ty s₂) where
       both_stay : StaysFor tree c s s₂
       both_stay = stays_then (omega arith) (omega arith) m.stays (type-stays further t)
 
@@ -169,7 +169,7 @@ module _ {tree text l s : List ℕ} {c : Converter} {r : ℕ} (p : Converting tr
       pub assign_untyped : {z : ConvertError} → ty ≡ Err z → StatesAs (λ t u i k j. assign_to_steps t u i k j v) c r tree text l s (Stated.Refused z) l₁ s₂
       assign_untyped w = states_stop (value_then (typed-not further t (λ y. checked_then (operand_of o) y) w)) both_stay
 
-      module _ {y : ℕ} (w : ty ≡ Ok y) {g : Answer (Unit {0})}
+      module _ {y : ℕ} (w : ty ≡ Ok y) {g : OrRefused (Unit {0})}
           (h : check_fits (program tree text) (all_keys tree text) (expr_at tree text e) y v.1 WrongAssignType r ≡ lift (outcome_of g)) where
         pub assign_unfit : {z : ConvertError} → g ≡ Err z → StatesAs (λ t u i k j. assign_to_steps t u i k j v) c r tree text l s (Stated.Refused z) l₁ s₂
         assign_unfit d =
@@ -243,35 +243,35 @@ module _ {tree text l s : List ℕ} {c : Converter} {r y : ℕ} (p : Converting 
   unfolding declare_init
   declare_steps_lem src ed = ap₂ (λ (b : Bool) (w : ℕ). declared_then tree text r b r w (scope_at tree text s c.scope) (copied src)) (mark_bit ed (init_detail tree text p.ready.keyed.good r x.below x.kind)) ez
 
-  module _ {made : NewVariable} {l₁ : List ℕ} (long : length l₁ ≡ length l) (new : AddsVar z c.counters l made l₁) where
-    pub new_requires : Asked tree text s c.scope r × NameAfforded c.scope made.var
+  module _ {made : WithCounters VarId} {l₁ : List ℕ} (long : length l₁ ≡ length l) (new : AddsVar z c.counters l made l₁) where
+    pub new_requires : Asked tree text s c.scope r × NameAfforded c.scope made.value
     new_requires = (init_asked p.ready x, var_afforded p long new more-names new_type_lem)
 
     module _ (src : Operand) {d : ℕ} (ed : d ≡ detail_of tree r) {s' : List ℕ} {g : Std.Option Scope}
-        (m : DeclareMeets text (original_of tree s r) (original_word tree s r A) (original_word tree s r B) made.var (eqb d 1) c.scope s s' g) where
+        (m : DeclareMeets text (original_of tree s r) (original_word tree s r A) (original_word tree s r B) made.value (eqb d 1) c.scope s s' g) where
       pub new-taken : {e : ConvertError} → g ≡ None → e ≡ record { kind = AlreadyDeclared; place = r }
           → DeclaresAs (λ t u i k j. declare_init_steps t u i k j y src) c r tree text l s (Stated.Refused e) l₁ s'
       new-taken q w =
           states_stop (meets-same (texts_of tree text) (declare_steps_lem src ed) (variable-not p long new more-names new_type_lem r (init_asked p.ready x) (eqb d 1) s' m r (copied src) q w))
-          (taken-stays p made.var more-names (var_typed p long new more-names new_type_lem) r (init_asked p.ready x) (eqb d 1) s' m q)
+          (taken-stays p made.value more-names (var_typed p long new more-names new_type_lem) r (init_asked p.ready x) (eqb d 1) s' m q)
 
       pub new-types : {sc : Scope} → g ≡ Some sc → InTurn tree text s c → TypedIn tree text c s [] s'
-      new-types q i = declared_types p made.var more-names (var_typed p long new more-names new_type_lem) r (init_asked p.ready x) (eqb d 1) s' m q i
+      new-types q i = declared_types p made.value more-names (var_typed p long new more-names new_type_lem) r (init_asked p.ready x) (eqb d 1) s' m q i
 
-      pub new_declared : {sc : Scope} {k₂ : Counters} {l₂ : List ℕ} → g ≡ Some sc → length l₂ ≡ length l₁ → Emits (Copy (var_of made.var) (operand_of src)) made.counters l₁ k₂ l₂
+      pub new_declared : {sc : Scope} {k₂ : Counters} {l₂ : List ℕ} → g ≡ Some sc → length l₂ ≡ length l₁ → Emits (Copy (var_of made.value) (operand_of src)) made.counters l₁ k₂ l₂
           → DeclaresAs (λ t u i k j. declare_init_steps t u i k j y src) c r tree text l s (Stated.Done sc k₂) l₂ s'
       new_declared {sc} {k₂} {l₂} q h i =
-          let at : TypeAt tree made.var.1 = var_typed p long new more-names new_type_lem in
+          let at : TypeAt tree made.value.1 = var_typed p long new more-names new_type_lem in
           let S : Def.Scope = scope_at tree text s' sc in
           states_done (meets-same (texts_of tree text) (declare_steps_lem src ed) (meets-most (texts_of tree text) (variable_then p long new more-names new_type_lem r (init_asked p.ready x) (eqb d 1) s' m r (copied src) q
           (meets-gave (texts_of tree text) h (adds_in (texts_of tree text) (adds_seq (pure S) (emit-adds h i) (adds-pure S k₂ l₂ i.next.room))))) (omega arith)))
-          (declared_leaves p made.var more-names at r (init_asked p.ready x) (eqb d 1) s' m q)
-          (declared_stays p made.var more-names at r (init_asked p.ready x) (eqb d 1) s' m q)
+          (declared_leaves p made.value more-names at r (init_asked p.ready x) (eqb d 1) s' m q)
+          (declared_stays p made.value more-names at r (init_asked p.ready x) (eqb d 1) s' m q)
 
 -- ---- a new name, from its value on
 
 module _ {tree text l s : List ℕ} {c : Converter} {r : ℕ} (p : Converting tree text l s c) (f : BehindAfforded tree text c r) (x : IsKind tree 16 r)
-    {e : ℕ} (ee : e ≡ word_of tree r C) {ty : Answer ℕ} {s₁ : List ℕ} (t : TypeMeets tree text s c.scope c.turn e ty s₁) where
+    {e : ℕ} (ee : e ≡ word_of tree r C) {ty : OrRefused ℕ} {s₁ : List ℕ} (t : TypeMeets tree text s c.scope c.turn e ty s₁) where
   abbrev declared : Def.Scope → ℕ → Ir.Operand → M Def.Scope
   declared S y src = declare_init (program tree text) (all_keys tree text) r (bit 1 (detail_of tree r)) (text_of tree text r A) y src S
 

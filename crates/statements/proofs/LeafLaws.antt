@@ -9,14 +9,13 @@ use mathlib.Core.List.{List}
 use mathlib.Core.Option.{Option, none, some}
 use Prim.Native.Nat.{ℕ, ◌+◌, ◌*◌, ◌/◌, ◌%◌, ◌^◌, ◌≤◌, ◌<◌}
 use native.Mathlib.Omega.{arith}
-use lib.Dec.{eqb, ltb, leb}
+use lib.Dec.{eqb, ltb}
 use lib.ListN.{length}
 use mir.Syntax.{w64}
 use mir.Val.{to_z}
 use mir.Facts.{to_z_pos}
-use borrow.Author.Tests.{ltb-true, leb-true}
+use borrow.Author.Tests.{ltb-true}
 use Rattle.laws.specs.Fix.{pick}
-use Rattle.laws.proofs.Tests.{and_left}
 use Rattle.records.specs.declared.convert_error.ConvertError.{ConvertError}
 use Rattle.records.specs.Words.{word_at, kind_of, detail_of, word_of, text_at, records, A, B}
 use Rattle.records.specs.Good.{Good}
@@ -36,7 +35,7 @@ use Rattle.types.specs.Sizes.{exact_size, bytes_for, exact_bytes, size_at}
 use Rattle.ir.specs.declared.structs.Counters.{Counters}
 use Rattle.ir.specs.declared.structs.Operand.{Operand}
 use Rattle.ir.specs.declared.floats.FloatBits.{FloatBits}
-use Rattle.ir.specs.declared.pool.PoolNumber.{PoolNumber}
+use Rattle.ir.specs.declared.structs.WithCounters.{WithCounters}
 use Rattle.ir.specs.Arena.{NumberedTexts, TellsApart, Room}
 use Rattle.ir.specs.Amounts.{Amount, amount}
 use Rattle.ir.specs.Floats.{entry, entry_of_float}
@@ -104,10 +103,10 @@ module _ (tree text l s : List ℕ) (c : Converter) (m : M Ir.Operand) where
 
 -- ---- a float and a string
 
-module _ (tree text : List ℕ) (e : ℕ) (k : Counters) (l l' : List ℕ) (r : PoolNumber) (long : length l' ≡ length l) where
+module _ (tree text : List ℕ) (e : ℕ) (k : Counters) (l l' : List ℕ) (r : WithCounters ℕ) (long : length l' ≡ length l) where
   pub float_leaf : Good tree text → IsKind tree 3 e → (b d : ℕ) (f : FloatBits) → b ≡ word_of tree e 0 + word_of tree e 1 * 4294967296 → d ≡ detail_of tree e
       → entry_of_float f ≡ entry b (eqb d 1) → NumbersFloat (entry_of_float f) k l r l'
-      → LeafAdds tree text e (amount 0 0 0 0 1) k l (record { operand = Operand.Float r.number; counters = r.counters }) l'
+      → LeafAdds tree text e (amount 0 0 0 0 1) k l (record { operand = Operand.Float r.value; counters = r.counters }) l'
   unfolding convert_expr wide_of OperandIn
   float_leaf good is b d f eb ed ef p =
       let mark : eqb d 1 ≡ bit 1 (detail_of tree e) = mark_bit ed (float_detail tree text good e is.below is.kind) in
@@ -116,14 +115,14 @@ module _ (tree text : List ℕ) (e : ℕ) (k : Counters) (l l' : List ℕ) (r : 
         adds = λ S. adds-of
             (rw (expr_float tree text e is.kind) (ap (λ (x : Ir.FloatEntry). Ir.float_id x >>= (λ i. pure (OFloat i))) is-entry))
             (adds_in_then (texts_of tree text) (λ i. pure (OFloat i)) (adds_in (texts_of tree text) (record { next = p.next; spent = p.spent; long = long }))
-            (adds_in (texts_of tree text) (adds-pure (OFloat r.number) r.counters l' p.next.room)));
+            (adds_in (texts_of tree text) (adds-pure (OFloat r.value) r.counters l' p.next.room)));
         operand = tt;
         long = long;
       }
 
   pub string_leaf : IsKind tree 4 e → (a n : ℕ) → a ≡ word_of tree e A → n ≡ word_of tree e B → (o : ℕ) → k.records ≡ records tree → o ≡ original tree text e
       → NumbersString o a n k l r l'
-      → LeafAdds tree text e (amount 0 0 0 1 0) k l (record { operand = Operand.DataAddress r.number; counters = r.counters }) l'
+      → LeafAdds tree text e (amount 0 0 0 1 0) k l (record { operand = Operand.DataAddress r.value; counters = r.counters }) l'
   unfolding convert_expr text_of OperandIn texts_of has_text
   string_leaf is a n ea en o ek eo p =
       let own : text_number tree text (text_at text a n) ≡ o =
@@ -133,7 +132,7 @@ module _ (tree text : List ℕ) (e : ℕ) (k : Counters) (l l' : List ℕ) (r : 
         adds = λ S. adds-of
             (rw (expr-str tree text e is.kind, ea, en))
             (adds_in_then (texts_of tree text) (λ i. pure (ODataAddress i)) (record { next = next; spent = p.spent })
-            (adds_in (texts_of tree text) (adds-pure (ODataAddress r.number) r.counters l' next.room)));
+            (adds_in (texts_of tree text) (adds-pure (ODataAddress r.value) r.counters l' next.room)));
         operand = tt;
         long = long;
       }
@@ -261,9 +260,3 @@ module _ (tree text l s : List ℕ) (c : Converter) (e : ℕ) (x : Converting tr
   unfolding convert_expr OperandIn
   leaf_null q =
       converts-most (omega arith) (gives_operand tree text l s c (expr_steps tree text s c e) Operand.Null x.room (rw (expr_null tree text e (sym ek ∙ q))) tt)
-
-  -- what is left is a SizeOf
-  pub leaf_size : kind_of tree e ≤ 8 → (k ≡ 2 → ⊥) → (k ≡ 3 → ⊥) → (k ≡ 4 → ⊥) → (k ≡ 5 → ⊥) → (k ≡ 6 → ⊥) → (k ≡ 7 → ⊥) → IsKind tree 8 e
-  leaf_size h n₂ n₃ n₄ n₅ n₆ n₇ =
-      let least = leb-true 2 (kind_of tree e) (and_left (leb 2 (kind_of tree e)) (leb (kind_of tree e) 11) is.expression) in
-      record { below = expr-low tree text x.ready.keyed.good e is; kind = omega arith }

@@ -13,7 +13,7 @@ use Rattle.conversion.specs.Visits.{typed_value, typed_own}
 use Rattle.ir.specs.declared.structs.Counters.{Counters}
 use Rattle.scope.specs.declared.Scope.{Scope}
 use Rattle.expressions.specs.Slots.{Typing}
-use Rattle.expressions.specs.Answers.{Answer, TypeMeets}
+use Rattle.expressions.specs.Answers.{OrRefused, TypeMeets}
 use Rattle.statements.specs.Lent.{Converter, Stated}
 use Rattle.statements.specs.Converting.{Converting}
 use Rattle.statements.specs.Turns.{InTurn, TypedIn, expr_types, value_types, init_types, head_types, own_types}
@@ -29,7 +29,7 @@ pub refused-stated : {X : Type 0} {z : ConvertError} (sc : Scope) (k : Counters)
 refused-stated sc k q = let z : ◌≡◌ {A = ℕ} 0 1 = cc in absurd (omega arith)
 
 -- a value is typed, and then converted
-module _ {tree text l s : List ℕ} {c : Converter} {e : ℕ} (p : Converting tree text l s c) {ty : Answer ℕ} {s₁ : List ℕ} (t : TypeMeets tree text s c.scope c.turn e ty s₁) where
+module _ {tree text l s : List ℕ} {c : Converter} {e : ℕ} (p : Converting tree text l s c) {ty : OrRefused ℕ} {s₁ : List ℕ} (t : TypeMeets tree text s c.scope c.turn e ty s₁) where
   pub value-next : {y : ℕ} {s₂ : List ℕ} → ty ≡ Ok y → TypedIn tree text c s₁ (expr_types tree text e) s₂ → TypedIn tree text c s (value_types tree text e) s₂
   unfolding typed_value
   value-next {y = y} w u = typed-next c (scope_later p (type-stays p t)) (t.adds y w) u

@@ -1,6 +1,6 @@
 -- The walk over the arguments of a call and the parameters beside them, up to a value: what is left gives the types that the whole gives.
 -- By one turn past a type, and the two ends: at a value, and behind all arguments. Assumes nothing.
-use mathlib.Core.Path.{◌≡◌, refl, sym, ap, ◌∙◌, subst}
+use mathlib.Core.Path.{◌≡◌, sym, ap, ◌∙◌, subst}
 use Prim.Native.Nat.{ℕ, suc}
 use Rattle.records.specs.Words.{word_of, none, B}
 use Rattle.records.specs.Good.{Good}
@@ -19,9 +19,6 @@ pub record Walked (tree text : List ℕ) (a p w q : ℕ) : Type 0 where
   pub args : ArgsAt tree w
   pub params : ParamsAt tree q
   pub types : (k : ℕ) → expected_type (params_at tree text q) (args_at tree text w) k ≡ expected_type (params_at tree text p) (args_at tree text a) k
-
-pub walk_start : (tree text : List ℕ) (a p : ℕ) → ArgsAt tree a → ParamsAt tree p → Walked tree text a p a p
-walk_start tree text a p x y = record { args = x; params = y; types = λ k. refl }
 
 module _ (tree text : List ℕ) (good : Good tree text) (a p w q : ℕ) (x : Walked tree text a p w q) where
   pub walk_end : w ≡ none → FirstValue tree text a p (record { parameter = q; rest = none })

@@ -44,7 +44,7 @@ use Rattle.ir.specs.Steps.{Emits}
 use Rattle.laws.proofs.FixLaws.{pick_yes, pick_no}
 use Rattle.scope.specs.Open.{scope_at}
 use Rattle.keys.specs.Keys.{all_keys}
-use Rattle.expressions.specs.Answers.{Answer, refusal, outcome_of, callee_of, TypeMeets, CallMeets}
+use Rattle.expressions.specs.Answers.{OrRefused, refusal, outcome_of, callee_of, TypeMeets, CallMeets}
 use Rattle.expressions.proofs.SlotLaws.{scope-frame}
 use Rattle.expressions.proofs.TypingLaws.{expr-low, place_is}
 use Rattle.statements.specs.Lent.{Converter, Converted, ConvertedArgs, Stated, Fitted}
@@ -64,7 +64,7 @@ use Rattle.statements.proofs.ConvertLaws.{converts-same, converted-next}
 
 -- ---- a condition
 
-module _ {tree text l s : List ℕ} {c : Converter} {e : ℕ} (p : Converting tree text l s c) (x : IsExpr tree e) {ty : Answer ℕ} {s₁ : List ℕ}
+module _ {tree text l s : List ℕ} {c : Converter} {e : ℕ} (p : Converting tree text l s c) (x : IsExpr tree e) {ty : OrRefused ℕ} {s₁ : List ℕ}
     (t : TypeMeets tree text s c.scope c.turn e ty s₁) where
   abbrev condition : ℕ → M Ir.Operand
   condition y = pick (eqb y bool_type) (expr_steps tree text s c e) (fail NotBool (place (expr_at tree text e)))
@@ -105,7 +105,7 @@ module _ {tree text l s : List ℕ} {c : Converter} {e : ℕ} (p : Converting tr
 
 -- ---- a statement behind typing, which writes no table
 
-module _ {tree text l s : List ℕ} {c : Converter} {e : ℕ} (p : Converting tree text l s c) {ty : Answer ℕ} {s₁ : List ℕ} (t : TypeMeets tree text s c.scope c.turn e ty s₁)
+module _ {tree text l s : List ℕ} {c : Converter} {e : ℕ} (p : Converting tree text l s c) {ty : OrRefused ℕ} {s₁ : List ℕ} (t : TypeMeets tree text s c.scope c.turn e ty s₁)
     (f : Def.Scope → ℕ → M Def.Scope) where
   abbrev typed_steps : M Def.Scope
   typed_steps = lift (get_type (program tree text) (all_keys tree text) (expr_at tree text e) (scope_at tree text s c.scope)) >>= f (scope_at tree text s c.scope)
@@ -186,7 +186,7 @@ module _ {tree text l s : List ℕ} {c : Converter} {r e : ℕ} (p : Converting 
         states_most (omega (arith, h, return-records p.ready.keyed.good ee x)) (omega arith)
         (states_same (ap (λ (w : ℕ). return_as (program tree text) (all_keys tree text) r (expr_at tree text w) y (scope_at tree text s c.scope) (some expected)) ee) i)
 
-    module _ (o : Answer (Unit {0})) (q : fits_in ≡ lift (outcome_of o)) where
+    module _ (o : OrRefused (Unit {0})) (q : fits_in ≡ lift (outcome_of o)) where
       pub return_unfit : {z : ConvertError} → o ≡ Err z → StatesAs (λ t x s k q. return_as_steps t x s k q y expected) c r tree text l s (Stated.Refused z) l s
       unfolding return_as
       return_unfit w = as_return (amount 0 0 0 0 0) (omega arith) (states_stop (checked_not o q valued (texts_of tree text) w) (stays_refl tree c.scope.names c.operands s))
@@ -215,7 +215,7 @@ return-types {tree = tree} {text = text} {s = s} {s' = s'} c r ee u = subst (λ 
 
 -- ---- a Return, once its value is typed
 
-module _ {tree text l s : List ℕ} {c : Converter} {r e : ℕ} (p : Converting tree text l s c) (x : IsKind tree 17 r) (ee : e ≡ word_of tree r A) {ty : Answer ℕ} {s₁ : List ℕ}
+module _ {tree text l s : List ℕ} {c : Converter} {r e : ℕ} (p : Converting tree text l s c) (x : IsKind tree 17 r) (ee : e ≡ word_of tree r A) {ty : OrRefused ℕ} {s₁ : List ℕ}
     (t : TypeMeets tree text s c.scope c.turn e ty s₁) where
   abbrev by_function : Def.Scope → ℕ → M Def.Scope
   by_function S y = return_as (program tree text) (all_keys tree text) r (expr_at tree text (word_of tree r A)) y S S.function.return_type
@@ -336,7 +336,7 @@ module _ {tree text l s : List ℕ} {c : Converter} {r e : ℕ} (p : Converting 
   own_types_lem = ap typed_own (statement_call tree text good r x.below x.kind) ∙ ap (λ (w : ℕ). typed_own (SCall r (expr_at tree text w))) (sym ee)
 
   -- the expression is a call
-  module _ (y : IsKind tree 11 e) {callee : Answer Code-Callee.Callee} {s₁ : List ℕ} (m : CallMeets tree text s c.scope c.turn e callee s₁) where
+  module _ (y : IsKind tree 11 e) {callee : OrRefused Code-Callee.Callee} {s₁ : List ℕ} (m : CallMeets tree text s c.scope c.turn e callee s₁) where
     abbrev called : Def.Scope → Callee → M Def.Scope
     called S to = call_statement (program tree text) (all_keys tree text) r (args_at tree text (word_of tree e C)) S to >> pure S
 
@@ -399,7 +399,7 @@ module _ {tree text l s : List ℕ} {c : Converter} {r e : ℕ} (p : Converting 
     resolved_types {s₂ = s₂} w u = subst (λ (z : List ℕ). TypedIn tree text c s z s₂) (sym call_types_lem) (typed-next c (scope_later p resolved_stays) (arguments_typed w) u)
 
   -- it is none: typed and never converted
-  module _ {k : ℕ} (ek : k ≡ kind_of tree e) (other : k ≡ 11 → ⊥) {ty : Answer ℕ} {s₁ : List ℕ} (t : TypeMeets tree text s c.scope c.turn e ty s₁) where
+  module _ {k : ℕ} (ek : k ≡ kind_of tree e) (other : k ≡ 11 → ⊥) {ty : OrRefused ℕ} {s₁ : List ℕ} (t : TypeMeets tree text s c.scope c.turn e ty s₁) where
     no_call : {X : Type 0} (d : X) (g : ℕ → Text → Args → X) → as_call (expr_at tree text e) d g ≡ d
     unfolding as_call
     no_call d g =

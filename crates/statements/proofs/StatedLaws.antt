@@ -26,7 +26,7 @@ use Rattle.scope.specs.declared.Scope.{Scope}
 use Rattle.scope.specs.Open.{scope_at}
 use Rattle.keys.specs.Keys.{all_keys}
 use Rattle.expressions.specs.Slots.{type_in}
-use Rattle.expressions.specs.Answers.{Answer, refusal, outcome_of, TypeMeets}
+use Rattle.expressions.specs.Answers.{OrRefused, refusal, outcome_of, TypeMeets}
 use Rattle.expressions.proofs.TypingLaws.{type-ok, type-refused}
 use Rattle.statements.specs.Lent.{Converter, Converted, Stated, Finished}
 use Rattle.statements.specs.Meets.{StepAnswer, gave, refused, AddsIn, Meets, texts_of}
@@ -77,16 +77,9 @@ module _ {tree text l l' s s' : List ℕ} {m : M Def.Scope} {n : Amount} {q : �
 -- ---- the answer of a block or of a part that leaves the scope
 
 module _ {X : Type 0} {tree text l l' s s' : List ℕ} {m : M X} {x : X} {n : Amount} {c : Converter} where
-  pub finishes_gave : {k : Counters} → length l' ≡ length l → AddsIn (texts_of tree text) m n c.counters l x k l' → StaysFor tree c s s'
-      → Finishes tree text m x n c l s (Finished.Done k) l' s'
-  finishes_gave long p stays = record { meets = meets-gave (texts_of tree text) long p; stays = stays }
-
   pub finishes_refused : {e : ConvertError} → length l' ≡ length l → StopsIn (texts_of tree text) m c.counters l e.kind e.place → StaysFor tree c s s'
       → Finishes tree text m x n c l s (Finished.Refused e) l' s'
   finishes_refused long p stays = record { meets = meets-refused (texts_of tree text) long p; stays = stays }
-
-  pub finishes_same : {m' : M X} {a : Finished} → m ≡ m' → Finishes tree text m x n c l s a l' s' → Finishes tree text m' x n c l s a l' s'
-  finishes_same {a = a} e p = subst (λ (y : M X). Finishes tree text y x n c l s a l' s') e p
 
   pub finishes_most : {n' : Amount} {a : Finished} → Most n n' → Finishes tree text m x n c l s a l' s' → Finishes tree text m x n' c l s a l' s'
   finishes_most h p = record { meets = meets-most (texts_of tree text) p.meets h; stays = p.stays }
@@ -124,7 +117,7 @@ module _ {tree text l s s' : List ℕ} {c : Converter} (p : Converting tree text
 
 -- ---- typing first: the step of the expression e's type, which writes no table
 
-module _ {tree text l s : List ℕ} {c : Converter} {e : ℕ} (p : Converting tree text l s c) {ty : Answer ℕ} {s₁ : List ℕ} (t : TypeMeets tree text s c.scope c.turn e ty s₁) where
+module _ {tree text l s : List ℕ} {c : Converter} {e : ℕ} (p : Converting tree text l s c) {ty : OrRefused ℕ} {s₁ : List ℕ} (t : TypeMeets tree text s c.scope c.turn e ty s₁) where
   pub type_converting : Converting tree text l s₁ c
   type_converting = converting_frame p t.frame
 
@@ -178,7 +171,7 @@ pub fails_as : {X : Type 0} {k : Counters} {l : List ℕ} {kind : ConvertErrorKi
 fails_as {X = X} {k = k} {l = l} {kind = kind} {r = r} texts q =
     subst (λ (v : ConvertError). StopsIn {A = X} texts (fail kind r) k l v.kind v.place) (sym q) (fail-stops texts k l kind r)
 
-module _ {X : Type 0} {m : M (Unit {0})} (o : Answer (Unit {0})) (q : m ≡ lift (outcome_of o)) (f : M X) where
+module _ {X : Type 0} {m : M (Unit {0})} (o : OrRefused (Unit {0})) (q : m ≡ lift (outcome_of o)) (f : M X) where
   as_lift : lift (outcome_of o) >>= (λ (u : Unit {0}). f) ≡ m >> f
   as_lift = sym (seq_is (lift (outcome_of o)) f) ∙ ap (λ (z : M (Unit {0})). z >> f) (sym q)
 

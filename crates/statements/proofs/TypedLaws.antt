@@ -21,7 +21,7 @@ use Rattle.ir.specs.declared.structs.Counters.{Counters}
 use Rattle.ir.specs.declared.structs.Operand.{Operand}
 use Rattle.scope.specs.Open.{scope_at}
 use Rattle.expressions.specs.Slots.{Frame}
-use Rattle.expressions.specs.Answers.{Answer, TypeMeets, CallMeets}
+use Rattle.expressions.specs.Answers.{OrRefused, TypeMeets, CallMeets}
 use Rattle.expressions.proofs.SlotLaws.{scope-frame}
 use Rattle.expressions.proofs.TurnLaws.{typed-none}
 use Rattle.expressions.proofs.TypingLaws.{expr-low}
@@ -85,7 +85,7 @@ module _ {tree text l s : List ℕ} {c : Converter} (p : Converting tree text l 
   leaf_types {e} {k} x ek h t o k' q = subst (λ (z : List ℕ). TypedIn tree text c s z s) (sym (leaf_none p.ready.keyed.good x (omega arith)))
       (typed-none tree text (scope_at tree text s c.scope) c.turn s t)
 
-  module _ {e : ℕ} {ty : Answer ℕ} {s₁ : List ℕ} (m : TypeMeets tree text s c.scope c.turn e ty s₁) {y : ℕ} (w : ty ≡ Ok y) where
+  module _ {e : ℕ} {ty : OrRefused ℕ} {s₁ : List ℕ} (m : TypeMeets tree text s c.scope c.turn e ty s₁) {y : ℕ} (w : ty ≡ Ok y) where
     pub typed-in_turn : InTurn tree text s₁ c
     typed-in_turn = in_turn-next c (same-frame m.frame) (m.adds y w)
 
@@ -101,7 +101,7 @@ module _ {tree text l s : List ℕ} {c : Converter} (p : Converting tree text l 
 
   -- ---- a Binary: the common type of its sides, then the sides
 
-  module _ {e y : ℕ} {t : Answer ℕ} {s₁ : List ℕ} (m : OperandTyped tree text s c e y t s₁) (u : CommonTyped c e tree text s t s₁) {q : ℕ} (w : t ≡ Ok q) where
+  module _ {e y : ℕ} {t : OrRefused ℕ} {s₁ : List ℕ} (m : OperandTyped tree text s c e y t s₁) (u : CommonTyped c e tree text s t s₁) {q : ℕ} (w : t ≡ Ok q) where
     pub common_in-turn : InTurn tree text s₁ c
     common_in-turn = in_turn-next c (same-frame m.frame) (u q w)
 
@@ -127,7 +127,7 @@ module _ {tree text l s : List ℕ} {c : Converter} (p : Converting tree text l 
 
   -- ---- a call: its callee, then its values; the rest types nothing
 
-  module _ {e : ℕ} {callee : Answer Code-Callee.Callee} {s₁ : List ℕ} {g : Code-Callee.Callee} (m : CallMeets tree text s c.scope c.turn e callee s₁) (not : callee ≡ Ok g) where
+  module _ {e : ℕ} {callee : OrRefused Code-Callee.Callee} {s₁ : List ℕ} {g : Code-Callee.Callee} (m : CallMeets tree text s c.scope c.turn e callee s₁) (not : callee ≡ Ok g) where
     callee-typed : TypedIn tree text c s (args_exprs (args_at tree text (word_of tree e C))) s₁
     callee-typed = let to = callee-is tree text _ not in m.adds to.to to.is
 

@@ -29,7 +29,7 @@ use Rattle.scope.specs.declared.Scope.{Scope}
 use Rattle.scope.specs.Open.{scope_at}
 use Rattle.keys.specs.Keys.{all_keys}
 use Rattle.expressions.specs.Slots.{Frame, Ready, common_in}
-use Rattle.expressions.specs.Answers.{Answer, IsTyped, type_result, outcome_of, callee_of}
+use Rattle.expressions.specs.Answers.{OrRefused, IsTyped, type_result, outcome_of, callee_of}
 use Rattle.statements.specs.Lent.{Converter, Converted, ConvertedArgs, Stated, Finished, ForVariable, Fitted, at, converted, found_variable}
 use Rattle.statements.specs.declared.answers.Converter as Code-Converter
 use Rattle.statements.specs.declared.answers.ForVariable as Code-ForVariable
@@ -123,7 +123,7 @@ pub record Finishes {A : Type 0} (tree text : List ℕ) (m : M A) (x : A) (n : A
   pub stays : StaysFor tree c s s'
 
 -- the type that the sides of the Binary e, of type y, are fitted to
-pub record OperandTyped (tree text s : List ℕ) (c : Converter) (e y : ℕ) (a : Answer ℕ) (s' : List ℕ) : Type 0 where
+pub record OperandTyped (tree text s : List ℕ) (c : Converter) (e y : ℕ) (a : OrRefused ℕ) (s' : List ℕ) : Type 0 where
   pub frame : Frame tree s s'
   pub typed : IsTyped tree a
   pub meets : operand_type (common_in tree text (scope_at tree text s c.scope) e) y ≡ type_result a
@@ -135,7 +135,7 @@ pub record FindsVariable (tree text : List ℕ) (m : M (Ir.VarId × Def.Scope)) 
   pub stays : StaysFor tree c s s'
 
 -- what writes no table: it is fine, or refused
-pub record Checks (tree : List ℕ) (m : M (Unit {0})) (s : List ℕ) (a : Answer (Unit {0})) (s' : List ℕ) : Type 0 where
+pub record Checks (tree : List ℕ) (m : M (Unit {0})) (s : List ℕ) (a : OrRefused (Unit {0})) (s' : List ℕ) : Type 0 where
   pub meets : m ≡ lift (outcome_of a)
   pub frame : Frame tree s s'
 
@@ -460,7 +460,7 @@ CallsAs e f dest count c tree text l s a l' s' =
     (amount (2 * count + 1) count 0 0 count) c l s a l' s'
 
 -- the call, of type y, is ended with them, where its callee was found
-abbrev pub CallEndsAs : ℕ → ℕ → Answer Code-Callee.Callee → ℕ → Converter → List ℕ → List ℕ → List ℕ → List ℕ → Converted → List ℕ → List ℕ → Type 0
+abbrev pub CallEndsAs : ℕ → ℕ → OrRefused Code-Callee.Callee → ℕ → Converter → List ℕ → List ℕ → List ℕ → List ℕ → Converted → List ℕ → List ℕ → Type 0
 CallEndsAs e y callee count c tree text l s a l' s' =
     (to : Callee) → callee_of tree text callee ≡ ok to
     → Converts tree text (finish_call (program tree text) (all_keys tree text) e y (args_at tree text (word_of tree e C)) (waiting tree s c count) to) (amount (2 * count + 1) (count + 1) 0 0 count) c l s a l' s'

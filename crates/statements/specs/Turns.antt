@@ -1,6 +1,6 @@
 -- Document 02, point 9, over whole statements: a statement is a turn, in which each of its expressions is typed once; what was typed, and how many visits
 -- were made. Assumes nothing: these are definitions.
-use Rattle.expressions.specs.Answers.{Answer}
+use Rattle.expressions.specs.Answers.{OrRefused}
 use Rattle.std.specs.Prelude.{◌≡◌, ℕ, ◌+◌, ◌*◌, ◌≤◌, ◌<◌, List, [], ◌++◌, Ok}
 use Rattle.records.specs.Layout as Layout
 use Rattle.records.specs.Layout.{end_of, type_slots}
@@ -135,11 +135,11 @@ FinishesTyped types c r tree text s a s' = (k : Counters) → a ≡ Finished.Don
 abbrev pub VariableTyped : Converter → List ℕ → List ℕ → List ℕ → ForVariable → List ℕ → Type 0
 VariableTyped c tree text s a s' = (x : VarId) (sc : Scope) (k : Counters) → a ≡ ForVariable.Is x sc k → TypedIn tree text c s [] s'
 
-abbrev pub ChecksTyped : TypesAt → Converter → ℕ → List ℕ → List ℕ → List ℕ → Answer (Unit {0}) → List ℕ → Type 0
+abbrev pub ChecksTyped : TypesAt → Converter → ℕ → List ℕ → List ℕ → List ℕ → OrRefused (Unit {0}) → List ℕ → Type 0
 ChecksTyped types c r tree text s a s' = a ≡ Ok tt → TypedIn tree text c s (types tree text r) s'
 
 -- the common type of the sides of the Binary e
-abbrev pub CommonTyped : Converter → ℕ → List ℕ → List ℕ → List ℕ → Answer ℕ → List ℕ → Type 0
+abbrev pub CommonTyped : Converter → ℕ → List ℕ → List ℕ → List ℕ → OrRefused ℕ → List ℕ → Type 0
 CommonTyped c e tree text s a s' = (y : ℕ) → a ≡ Ok y → TypedIn tree text c s (common_types tree text e) s'
 
 -- a whole statement, as a statement's answer and as one that leaves the scope as it was; and a block

@@ -16,7 +16,7 @@ use ir::structs::{Label, Operand, emit_jump, emit_jump_if_not, emit_label};
 // The label of this kind that the record opens.
 pub(crate) fn label(arena: &mut [u8], k: &mut [usize], kind: LabelKind, opener: usize) -> Label
     requires { RoomFor (counted k.old) arena.old (amount 0 0 1 0 0) × (opener < (counted k.old).records) }
-    ensures { NumbersLabel (label_number kind) opener (counted k.old) arena.old (record { label = result; counters = counted k.new }) arena.new }
+    ensures { NumbersLabel (label_number kind) opener (counted k.old) arena.old (record { value = result; counters = counted k.new }) arena.new }
 {
     label_id(arena, k, kind as u32, opener as u32)
 }

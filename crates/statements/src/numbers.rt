@@ -1,6 +1,7 @@
 // Document 01's numbers for labels, and its tags as words of the stack.
+use ir::structs::Tag;
 
-// Kinds of labels.
+// Kinds of labels, with their numbers.
 #[derive(Clone, Copy, Debug, PartialEq, Eq)]
 pub(crate) enum LabelKind {
     LoopStart = 1,
@@ -13,16 +14,16 @@ pub(crate) enum LabelKind {
 }
 
 // Tags of operands as words; an Int's is 1 more where it is short, 2 more where it is unsigned.
-pub(crate) const TAG_VARIABLE: u32 = ir::structs::TAG_VARIABLE as u32;
+pub(crate) const TAG_VARIABLE: u32 = Tag::Variable as u32;
 
-pub(crate) const TAG_INT: u32 = ir::structs::TAG_INT as u32;
+pub(crate) const TAG_INT: u32 = Tag::Int as u32;
 
-pub(crate) const TAG_UNSIGNED: u32 = ir::structs::TAG_UNSIGNED as u32;
+pub(crate) const TAG_UNSIGNED: u32 = Tag::Unsigned as u32;
 
-pub(crate) const TAG_FLOAT: u32 = ir::structs::TAG_FLOAT as u32;
+pub(crate) const TAG_FLOAT: u32 = Tag::Float as u32;
 
-pub(crate) const TAG_BOOL: u32 = ir::structs::TAG_BOOL as u32;
+pub(crate) const TAG_BOOL: u32 = Tag::Bool as u32;
 
-pub(crate) const TAG_STRING: u32 = ir::structs::TAG_STRING as u32;
+pub(crate) const TAG_STRING: u32 = Tag::String as u32;
 
-pub(crate) const TAG_NULL: u32 = ir::structs::TAG_NULL as u32;
+pub(crate) const TAG_NULL: u32 = Tag::Null as u32;

@@ -29,7 +29,7 @@ use crate::numbers::{
 use expressions::names::find_name;
 use ir::floats::float_entry;
 use ir::lent::{float_id, string_id};
-use ir::structs::{Operand, VarId};
+use ir::structs::{Operand, TextId, VarId};
 use records::convert_error::{ConvertError, ConvertErrorKind};
 use records::layout::{OPERAND_BYTES, OPERANDS};
 use records::numbers::{KIND_BOOL, KIND_FLOAT, KIND_INT, KIND_NAME, KIND_NULL, KIND_STR};
@@ -141,10 +141,12 @@ fn string_operand(
     requires affords { Affords (counted k.old) (amount 0 0 0 1 0) × IsKind tree.now kind_str e }
     ensures { LeafAdds tree.now text.now e (amount 0 0 0 1 0) (counted k.old) arena.old (fitted k.new result) arena.new }
 {
-    let o = original(scratch, c.scope.records, e);
-    let offset = word(tree, e, WORD_A);
-    let len = word(tree, e, WORD_B);
-    Operand::DataAddress(string_id(arena, k, o, offset, len))
+    let id = TextId {
+        number: original(scratch, c.scope.records, e),
+        offset: word(tree, e, WORD_A),
+        len: word(tree, e, WORD_B),
+    };
+    Operand::DataAddress(string_id(arena, k, id))
 }
 
 // The variable of the Name e.

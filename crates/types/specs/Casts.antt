@@ -2,9 +2,9 @@
 use Rattle.std.specs.Prelude.{ℕ}
 use Rattle.types.specs.declared.casts.CastClass.{CastClass}
 
-abbrev pub number_of : CastClass → ℕ
-number_of CastClass.OtherScalar = 0
-number_of CastClass.LongInt = 1
-number_of CastClass.Address = 2
-number_of CastClass.Null = 3
-number_of CastClass.Rest = 4
+abbrev pub class_number : CastClass → ℕ
+class_number CastClass.OtherScalar = 0
+class_number CastClass.LongInt = 1
+class_number CastClass.Address = 2
+class_number CastClass.Null = 3
+class_number CastClass.Rest = 4

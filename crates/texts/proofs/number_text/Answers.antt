@@ -7,20 +7,17 @@ use borrow.Author.Rules.{rules}
 use Rattle.texts.proofs.number_text.Goals.{then-place-r, else-place-r}
 use Rattle.texts.proofs.number_text.Goals as goal
 
-pub overflow_mul-b : goal.overflow_mul-b
-overflow_mul-b c = omega (arith, c.requires.good.0.few, c.requires.r_bound.3)
-
 pub find_place-place-requires : goal.find_place-place-requires
 find_place-place-requires c = record { chain_room = (record { few = c.requires.good.0.few; room = omega (arith, c.requires.good.1) }, omega (arith, c.requires.good.0.whole), c.requires.r_bound.0, omega (arith, c.requires.good.1, c.requires.r_bound.3)); leads = chain-leads _ _ _ _ _ c.requires.chains _ c.requires.r_bound.0 c.requires.r_bound.3 c.requires.r_bound.2 }
 
 pub load-next-requires : goal.load-next-requires
-load-next-requires c = let belongs = c.find_place-place.ensures in omega (arith, place_inside _ _ _ _ c.requires.r_bound.0 c.requires.r_bound.1 c.requires.r_bound.2 c.requires.r_bound.3 _ c.requires.chains _ _ _ belongs c.if-place-r.true, c.requires.good.1, c.requires.r_bound.0)
+load-next-requires c = omega (arith, place_inside _ _ _ _ c.requires.r_bound.0 c.requires.r_bound.1 c.requires.r_bound.2 c.requires.r_bound.3 _ c.requires.chains _ _ _ c.find_place-place.ensures c.if-place-r.true, c.requires.good.1, c.requires.r_bound.0)
 
 pub enter_at-requires : goal.enter_at-requires
-enter_at-requires c = let belongs = c.find_place-place.ensures in (record { few = c.requires.good.0.few; room = omega (arith, c.requires.good.1) }, c.requires.r_bound.0, omega (arith, place_inside _ _ _ _ c.requires.r_bound.0 c.requires.r_bound.1 c.requires.r_bound.2 c.requires.r_bound.3 _ c.requires.chains _ _ _ belongs c.if-place-r.true, c.requires.good.1, c.requires.r_bound.0))
+enter_at-requires c = (record { few = c.requires.good.0.few; room = omega (arith, c.requires.good.1) }, c.requires.r_bound.0, omega (arith, place_inside _ _ _ _ c.requires.r_bound.0 c.requires.r_bound.1 c.requires.r_bound.2 c.requires.r_bound.3 _ c.requires.chains _ _ _ c.find_place-place.ensures c.if-place-r.true, c.requires.good.1, c.requires.r_bound.0))
 
 pub overflow_cast-result : goal.overflow_cast-result
-overflow_cast-result c = let belongs = c.find_place-place.ensures in omega (arith, number-within _ _ _ _ c.requires.r_bound.0 c.requires.r_bound.1 c.requires.r_bound.2 c.requires.r_bound.3 _ c.requires.chains _ _ _ belongs, c.requires.good.0.few, c.requires.r_bound.0)
+overflow_cast-result c = omega (arith, number-within _ _ _ _ c.requires.r_bound.0 c.requires.r_bound.1 c.requires.r_bound.2 c.requires.r_bound.3 _ c.requires.chains _ _ _ c.find_place-place.ensures, c.requires.good.0.few, c.requires.r_bound.0)
 
 pub returns : goal.returns
 returns c = let belongs = c.find_place-place.ensures in (

@@ -1,14 +1,13 @@
 -- `int128::quotient::digit` meets its contract: the estimate from the leading parts is settled, and what is left is below the divisor, so one word.
 -- `Digits.estimate` in base 2 ^ 32, and what `settle` and `rest` ensure of h * 2 ^ 32 + l.
 use Prim.Native.Nat.{ℕ, ◌+◌, ◌*◌, ◌/◌, ◌%◌, ◌^◌, ◌≤◌, ◌<◌}
-use native.Mathlib.Nat.{mod-lt, lt_trans, lt_of_lt_of_le, div-add-mod', add-mul, add_assoc, mul_assoc}
+use native.Mathlib.Nat.{lt_of_lt_of_le, div-add-mod', add-mul, add_assoc, mul_assoc}
 use native.Mathlib.Omega.{arith}
 use lib.Dec.{lit<}
 use lib.Pow.{pow_pos}
-use mathlib.Core.Path.{◌≡◌, ◌∙◌, sym, ap, ap₂, subst₂}
-use Rattle.int128.proofs.Halves.{only-lower, no_upper}
+use mathlib.Core.Path.{◌≡◌, ◌∙◌, sym, ap, subst₂}
+use Rattle.int128.proofs.Halves.{no_upper}
 use Rattle.int128.proofs.Digits.{estimate}
-use borrow.Author.Rules.{rules}
 use Rattle.int128.proofs.quotient.digit.Goals as goal
 
 -- the dividend and the divisor in halves
@@ -33,13 +32,3 @@ settle-q-requires c = let h = c.args.h in
     let d = c.args.d in
     let e = estimate h l d (2 ^ 32) (pow_pos 32) (positive d c.requires.0) (top_pos d c.requires.0) (top d c.requires.0) c.requires.1 c.requires.2 in
     subst₂ (λ (x y : ℕ). (0 < y) × (x / y ≤ h / (d / 2 ^ 32)) × (h / (d / 2 ^ 32) ≤ x / y + 2)) (sym (whole h l)) (sym (no_upper d)) (positive d c.requires.0, e.0, e.1)
-
-pub returns : goal.returns
-returns c = let s = c in
-    let h = c.args.h in
-    let l = c.args.l in
-    let d = c.args.d in
-    let r = c.rest-r.result in (
-      c.settle-q.ensures ∙ ap₂ ◌/◌ (whole h l) (no_upper d),
-      only-lower (2 ^ 64) r.hi r.lo ((h * 2 ^ 32 + l) % d) (search rules) (lt_trans (mod-lt (h * 2 ^ 32 + l) (positive d c.requires.0)) (search rules)) (c.rest-r.ensures ∙ ap₂ ◌%◌ (whole h l) (no_upper d)),
-    )

@@ -8,7 +8,7 @@ use lib.Pow.{pow_pos}
 use mathlib.Core.Path.{◌≡◌, ◌∙◌, sym, ap₂, subst}
 use Rattle.int128.specs.Value.{bits_of}
 use Rattle.int128.proofs.Whole.{fits}
-use Rattle.int128.proofs.Halves.{upper_pos, only-lower, no_upper}
+use Rattle.int128.proofs.Halves.{only-lower}
 use Rattle.int128.proofs.Digits.{over, near}
 use Rattle.int128.proofs.Normal.{Shift, top_lt, top_ge, leading_lt}
 use borrow.Author.Rules.{rules}
@@ -20,18 +20,13 @@ half x h = omega arith
 some_left : (s : ℕ) → s < 64 → 0 < 64 - s
 some_left s h = omega arith
 
-pub norm_shift-s-requires : goal.norm_shift-s-requires
-norm_shift-s-requires c = let d = c.args.d in
-    upper_pos (2 ^ 64) d.hi d.lo (search rules) c.requires
-
 pub div_two-estimate-requires : goal.div_two-estimate-requires
 div_two-estimate-requires c =
     let shift : Shift c.args.d.hi c.norm_shift-s.result = record { short = c.norm_shift-s.ensures.0; top = c.norm_shift-s.ensures.1; fits = c.norm_shift-s.ensures.2 } in
     let part : ℕ = bits_of c.args.d / 2 ^ (64 - c.norm_shift-s.result) in
-    let part-is : c.shr_bits-top.result.lo ≡ part = let d = c.args.d in
-    only-lower (2 ^ 64) c.shr_bits-top.result.hi c.shr_bits-top.result.lo _ (search rules) (top_lt d.hi d.lo c.norm_shift-s.result (search rules) shift) c.shr_bits-top.ensures in
-    let part_ge : 2 ^ 63 ≤ part = let d = c.args.d in
-    top_ge d.hi d.lo c.norm_shift-s.result (search rules) shift in
+    let part-is : c.shr_bits-top.result.lo ≡ part =
+    only-lower (2 ^ 64) c.shr_bits-top.result.hi c.shr_bits-top.result.lo _ (search rules) (top_lt c.args.d.hi c.args.d.lo c.norm_shift-s.result (search rules) shift) c.shr_bits-top.ensures in
+    let part_ge : 2 ^ 63 ≤ part = top_ge c.args.d.hi c.args.d.lo c.norm_shift-s.result (search rules) shift in
     let n = c.args.n in
     let r = c.shr_bits-leading.result in
     subst (λ (x : ℕ). r.hi < x) (sym part-is)
@@ -41,12 +36,10 @@ pub settle-word-requires : goal.settle-word-requires
 settle-word-requires c =
     let shift : Shift c.args.d.hi c.norm_shift-s.result = record { short = c.norm_shift-s.ensures.0; top = c.norm_shift-s.ensures.1; fits = c.norm_shift-s.ensures.2 } in
     let part : ℕ = bits_of c.args.d / 2 ^ (64 - c.norm_shift-s.result) in
-    let part-is : c.shr_bits-top.result.lo ≡ part = let d = c.args.d in
-    only-lower (2 ^ 64) c.shr_bits-top.result.hi c.shr_bits-top.result.lo _ (search rules) (top_lt d.hi d.lo c.norm_shift-s.result (search rules) shift) c.shr_bits-top.ensures in
-    let part_ge : 2 ^ 63 ≤ part = let d = c.args.d in
-    top_ge d.hi d.lo c.norm_shift-s.result (search rules) shift in
+    let part-is : c.shr_bits-top.result.lo ≡ part =
+    only-lower (2 ^ 64) c.shr_bits-top.result.hi c.shr_bits-top.result.lo _ (search rules) (top_lt c.args.d.hi c.args.d.lo c.norm_shift-s.result (search rules) shift) c.shr_bits-top.ensures in
+    let part_ge : 2 ^ 63 ≤ part = top_ge c.args.d.hi c.args.d.lo c.norm_shift-s.result (search rules) shift in
     let estimate_is : c.div_two-estimate.result.quotient ≡ bits_of c.args.n / 2 ^ (64 - c.norm_shift-s.result) / part = c.div_two-estimate.ensures.0 ∙ ap₂ ◌/◌ c.shr_bits-leading.ensures part-is in
-    let s = c in
     let n = bits_of c.args.n in
     let d = bits_of c.args.d in
     let k = 2 ^ (64 - c.norm_shift-s.result) in
@@ -57,6 +50,3 @@ settle-word-requires c =
       subst (λ (x : ℕ). n / d ≤ x) (sym estimate_is) (over n d k (pow_pos (64 - c.norm_shift-s.result)) ht),
       subst (λ (x : ℕ). x ≤ n / d + 2) (sym estimate_is) (near n d k (2 ^ 64) (pow_pos (64 - c.norm_shift-s.result)) hd ht (half (d / k) part_ge) hq),
     )
-
-pub returns : goal.returns
-returns c = (no_upper c.settle-word.result ∙ c.settle-word.ensures, c.rest-r.ensures)

@@ -9,6 +9,5 @@ returns-then-is_label c = label_found _ _ _ _ c.requires.0 _ _ c.label_slot.ensu
     _ _ c.is_label.ensures c.if-is_label.true refl refl
 
 pub returns : goal.returns
-returns c = let first = c in
-    label_new _ _ _ _ c.requires.0 _ _ c.label_slot.ensures c.load-number.ensures
+returns c = label_new _ _ _ _ c.requires.0 _ _ c.label_slot.ensures c.load-number.ensures
     _ _ _ c.requires.1 c.requires.2 c.is_label.ensures c.if-is_label.false c.add_label.ensures

@@ -1,19 +1,12 @@
 -- A function's entry, on the words.
 -- What the step by value owes, and the four words that were stored. Assumes nothing.
-use mathlib.Core.Path.{sym, subst}
-use Prim.Native.Nat.{◌<◌}
 use native.Mathlib.Omega.{arith}
 use lib.ListN.{set}
-use Rattle.ir.specs.declared.structs.Counters.{Counters}
-use Rattle.ir.proofs.LentLaws.{ten, still, room-read, function-lent}
+use Rattle.ir.proofs.LentLaws.{ten, still, function-lent}
 use Rattle.ir.proofs.lent.add_function.Goals as goal
 
 pub counters_of-c-requires : goal.counters_of-c-requires
 counters_of-c-requires c = ten _ _ c.requires.0
-
-pub add_function-next-requires : goal.add_function-next-requires
-add_function-next-requires c = let e = c.counters_of-c.ensures in
-    (room-read e c.requires.0, subst (λ (x : Counters). x.functions < x.records) (sym e) c.requires.1)
 
 pub bounds-k-4 : goal.bounds-k-4
 bounds-k-4 c = omega (arith, ten _ _ c.requires.0)

@@ -9,5 +9,4 @@ pub returns-then-has_number : goal.returns-then-has_number
 returns-then-has_number c = string_at _ _ _ _ _ _ c.requires.0 c.requires.2 (c.index.ensures ∙ c.load-number.ensures) _ _ c.has_number.ensures c.if-has_number.true (sym c.index.ensures) refl
 
 pub returns : goal.returns
-returns c = let first = c in
-    string_nowhere _ _ _ _ _ _ c.requires.0 c.requires.2 (c.index.ensures ∙ c.load-number.ensures) _ _ _ c.requires.1 (omega arith) (omega arith) c.has_number.ensures c.if-has_number.false c.add_string.ensures
+returns c = string_nowhere _ _ _ _ _ _ c.requires.0 c.requires.2 (c.index.ensures ∙ c.load-number.ensures) _ _ _ c.requires.1 (omega arith) (omega arith) c.has_number.ensures c.if-has_number.false c.add_string.ensures

@@ -5,9 +5,6 @@ use native.Mathlib.Omega.{arith}
 use Rattle.ir.proofs.LinkLaws.{walk_end, walk_here, walk_further, walk_astray}
 use Rattle.ir.proofs.search.walk_float.Goals as goal
 
-pub loop-u-init : goal.loop-u-init
-loop-u-init c = (omega arith, λ r h. h)
-
 pub returns-then-is_float_at : goal.returns-then-is_float_at
 returns-then-is_float_at c = c.loop-u.invariant.1 _ (walk_here _ _ c.loop-u-test.true refl (sym c.is_float_at.ensures ∙ c.if-is_float_at.true))
 

@@ -3,9 +3,11 @@
 use native.Mathlib.Omega.{arith}
 use Rattle.ir.proofs.FunctionDone.{function-done}
 use Rattle.records.proofs.WordLaws.{put_eight}
+use Rattle.conversion.specs.Written.{bool_number}
+use borrow.Author.Rules.{rules}
 use Rattle.ir.proofs.structs.add_function.Goals as goal
 
 pub returns : goal.returns
-returns c = let entry = c in
-    function-done _ _ _ c.mark.ensures _ _ _ c.requires.0 c.requires.1
+unfolding bool_number
+returns c = function-done _ _ _ (search rules) _ _ _ c.requires.0 c.requires.1
     (put_eight _ _ _ _ _ _ _ _ _ _ _ _ (omega (arith, c.requires)) c.put_four.ensures c.put_four-2.ensures)

@@ -1,7 +1,6 @@
 -- Types whose digests differ are not alike; a Custom is like any of its digest, and of other types the words are compared.
 -- Each return is a case of the definition, over what the calls ensure. Assumes nothing.
 use Rattle.judge.proofs.EqualLaws.{is-named, is_unnamed, digests-differ, alike-named, alike-words}
-use borrow.Author.Rules.{rules}
 use Rattle.judge.proofs.equal.is_alike.Goals as goal
 
 pub returns-then-digest-d : goal.returns-then-digest-d
@@ -9,9 +8,6 @@ returns-then-digest-d c = digests-differ _ _ _ _ _ _ c.requires.digest_value.0 c
 
 pub returns-then-detail-eq-FORM_CUSTOM : goal.returns-then-detail-eq-FORM_CUSTOM
 returns-then-detail-eq-FORM_CUSTOM c = alike-named _ _ _ _ _ _ c.requires.digest_value.0 c.requires.digest_value.1 c.if-digest-d.false (is-named _ _ _ c.detail.ensures c.if-detail-eq-FORM_CUSTOM.true)
-
-pub same_words-requires : goal.same_words-requires
-same_words-requires c = record { record_bytes_in_bounds = search rules; r_value = is_unnamed _ _ _ c.detail.ensures c.if-detail-eq-FORM_CUSTOM.false }
 
 pub returns : goal.returns
 returns c = alike-words _ _ _ _ _ _ c.requires.digest_value.0 c.requires.digest_value.1 c.if-digest-d.false _ (is_unnamed _ _ _ c.detail.ensures c.if-detail-eq-FORM_CUSTOM.false) (c.same_words.ensures _)

@@ -14,9 +14,6 @@ loop-init c = walk_start _ _ (together _ _ _) _ _ (c.index-at.ensures ∙ c.requ
 pub returns-then-at-eq0 : goal.returns-then-at-eq0
 returns-then-at-eq0 c = λ e. sym (like_none _ _ _ _ c.loop.at (omega arith) c.loop.invariant)
 
-pub is_alike-requires : goal.is_alike-requires
-is_alike-requires c = record { record_bytes_in_bounds = (omega (arith, c.if-at-eq0.false, c.loop.invariant.within, c.requires.leading.0.within), omega (arith, c.requires.leading.0.within)); digest_value = (c.load-digest.ensures ∙ c.requires.types_chained.0.digests (c.loop.at - 1) (omega (arith, c.if-at-eq0.false, c.loop.invariant.within)) refl, c.requires.types_chained.1) }
-
 pub loop-preserved : goal.loop-preserved
 loop-preserved c = walk_on _ _ (together _ _ _) _ c.loop.at (c.loop.at - 1) _ c.loop.invariant (omega (arith, c.if-at-eq0.false)) (sym c.is_alike.ensures ∙ c.if-is_alike.false) (c.index-at-in-loop.ensures ∙ c.load.ensures ∙ c.requires.types_chained.0.links (c.loop.at - 1) (omega (arith, c.if-at-eq0.false, c.loop.invariant.within)) refl)
 

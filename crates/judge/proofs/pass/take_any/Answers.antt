@@ -9,17 +9,8 @@ use Rattle.judge.proofs.pass.take_any.Goals as goal
 pub take_words-told-requires : goal.take_words-told-requires
 take_words-told-requires c = record { r_lt_most_records = (omega arith, omega arith, c.requires.known_below.0); row_value = (row_told _ _ _ _ _ _ c.kind-k.ensures c.detail-found.ensures c.shape_of.ensures.0 c.row_of-row.ensures, c.five_words-words.ensures) }
 
-pub is_first_type-first-requires : goal.is_first_type-first-requires
-is_first_type-first-requires c = omega (arith, c.requires.r_bound.1.whole, c.requires.r_bound.0)
-
-pub class_at-class-requires : goal.class_at-class-requires
-class_at-class-requires c = (omega (arith, c.requires.r_bound.1.whole, c.requires.r_bound.0), rw c.take_words-told.ensures.counted.same (omega (arith, c.requires.r_bound.0, c.requires.r_bound.1.room)))
-
 pub depth_over-depth-requires : goal.depth_over-depth-requires
 depth_over-depth-requires c = depth_small _ _ _ c.take_words-told.ensures.depth
-
-pub put_known-requires : goal.put_known-requires
-put_known-requires c = rw c.take_words-told.ensures.counted.same (omega (arith, c.requires.r_bound.0, c.requires.r_bound.1.room))
 
 pub returns : goal.returns
 returns c = bytes-told _ _ _ _ c.requires.r_bound.1.lead c.requires.r_bound.0 _ _ _ _ _ _ c.kind-k.ensures c.detail-found.ensures (row_told _ _ _ _ _ _ c.kind-k.ensures c.detail-found.ensures c.shape_of.ensures.0 c.row_of-row.ensures) c.five_words-words.ensures c.pad.ensures _ _ _ _ _ _ _ c.requires.known_below.0 c.requires.known_below.1 c.take_words-told.ensures c.class_at-class.ensures c.depth_over-depth.ensures (omega (arith, c.requires.r_bound.0, c.requires.r_bound.1.room)) c.put_known.ensures _

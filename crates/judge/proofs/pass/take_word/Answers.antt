@@ -4,9 +4,6 @@ use mathlib.Core.Path.{sym, ◌∙◌}
 use Rattle.judge.proofs.TakeLaws.{took_plain}
 use Rattle.judge.proofs.pass.take_word.Goals as goal
 
-pub take_reference-requires : goal.take_reference-requires
-take_reference-requires c = (c.requires.0, c.requires.1, c.requires.2, sym c.refers_to.ensures ∙ c.if-refers_to.true)
-
 pub returns-then-refers_to : goal.returns-then-refers_to
 returns-then-refers_to c = c.take_reference.ensures _ _
 

@@ -1,15 +1,11 @@
 -- What the list holds that begins at a cell, by the slots that its words lead to.
 -- Each return is a case of `PlainClass`. Assumes nothing.
-use native.Mathlib.Omega.{arith}
 use Rattle.judge.proofs.ListClass.{class_plain}
 use Rattle.judge.proofs.PlainClass.{slot_mixed, slot_same}
 use Rattle.judge.proofs.plain.class_of.Goals as goal
 
 pub returns-then-k-ne-KIND_LIST : goal.returns-then-k-ne-KIND_LIST
 returns-then-k-ne-KIND_LIST c = λ r b few low place. class_plain _ _ _ _ _ _ c.if-k-ne-KIND_LIST.true
-
-pub item_of-item-requires : goal.item_of-item-requires
-item_of-item-requires c = (omega (arith, c.index.ensures, c.requires.item c.if-k-ne-KIND_LIST.false), rw c.index.ensures (c.requires.kind c.if-k-ne-KIND_LIST.false), c.requires.table)
 
 pub returns-then-pb-rest : goal.returns-then-pb-rest
 returns-then-pb-rest c = λ r b few low place. slot_mixed _ c.args.known.now _ _ _ _ _ _ _ few c.if-k-ne-KIND_LIST.false place c.index.ensures (low c.if-k-ne-KIND_LIST.false) c.item_of-item.ensures c.if-pb-rest.true

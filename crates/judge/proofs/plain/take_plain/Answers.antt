@@ -2,11 +2,8 @@
 -- By the laws of `PlainTaken`, over what the calls ensure. Assumes nothing.
 use mathlib.Core.Path.{ap}
 use mathlib.Core.Bool.{◌&&◌, not}
-use Rattle.judge.proofs.PlainTaken.{plain_left, slots-ready, plain_took}
+use Rattle.judge.proofs.PlainTaken.{slots-ready, plain_took}
 use Rattle.judge.proofs.plain.take_plain.Goals as goal
-
-pub returns-then-not-form-placed : goal.returns-then-not-form-placed
-returns-then-not-form-placed c = plain_left _ _ _ _ (c.requires.known, c.requires.counting)
 
 pub take_slots-requires : goal.take_slots-requires
 take_slots-requires c = slots-ready _ _ _ _ _ _ _ _ _ c.requires c.five_words-words.ensures c.place_of-pa.ensures c.place_of-pb.ensures c.place_of-pc.ensures c.form_ok-form.result _ _ _ c.place_ok.ensures c.place_ok-2.ensures c.place_ok-3.ensures (ap not c.if-not-form-placed.false)

@@ -2,14 +2,8 @@
 -- By the laws of the first with a key. Assumes nothing.
 use Prim.Native.Nat.{◌-◌}
 use native.Mathlib.Omega.{arith}
-use Rattle.sorting.proofs.GroupLaws.{fewer, first-at-all, first_goes_on, first-new}
+use Rattle.sorting.proofs.GroupLaws.{first_goes_on, first-new}
 use Rattle.sorting.proofs.sorted.first_up_to.Goals as goal
-
-pub returns-then-i-eq0 : goal.returns-then-i-eq0
-returns-then-i-eq0 c = first-at-all _ _ _ _ _ c.requires.sorted_records _ _ c.if-i-eq0.true c.load-r.ensures
-
-pub same_as_next-requires : goal.same_as_next-requires
-same_as_next-requires c = fewer _ _ _ _ _ c.requires.sorted_records _ (omega (arith, c.if-i-eq0.false))
 
 pub returns-then-same_as_next : goal.returns-then-same_as_next
 returns-then-same_as_next c = first_goes_on _ _ _ _ _ c.requires.sorted_records c.args.i (c.args.i - 1) _ (omega (arith, c.if-i-eq0.false)) c.same_as_next.ensures _ c.if-same_as_next.true c.requires.by_index

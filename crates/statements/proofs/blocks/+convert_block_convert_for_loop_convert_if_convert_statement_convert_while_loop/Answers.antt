@@ -17,8 +17,8 @@ use Rattle.statements.proofs.StatedLaws.{finished_converting}
 use Rattle.statements.proofs.BlockLaws.{comment_converting, comment_afforded, last-kind, commented_plain, commented_jump, commented_if, commented_while, commented_for}
 use Rattle.statements.proofs.BlockParts.{while_list, while_stop, while_converting, while_afforded, while_body-stop, while_room, while_next, for_list, for_stop, for_converting, for_afforded, for_body-stop, for_room, for_next, then_list, other-list, if-stop, then_afforded, then_stop, if-room, if-next, middle_room, other_converting, other_afforded, other-stop, other-room, if_else_next}
 use Rattle.statements.proofs.HeadLaws.{refused-finished}
-use Rattle.statements.proofs.BlockVisits.{comment_fresh, comment_small, comment_in_turn, plain_visited, jump_visited, stated-visited, begun-in_turn, head_visited, while_visited, if-visited, middle_turns, else_visited, for_head-visited, for_visited}
-use Rattle.statements.proofs.BlockTurns.{block_start, block_done, block_visited, cell-low, block_less, turn_statement, turn_afforded, turn-stop, turn-next}
+use Rattle.statements.proofs.BlockVisits.{comment_fresh, comment_small, comment_in_turn, plain_visited, jump_visited, stated-visited, head_visited, while_visited, if-visited, middle_turns, else_visited, for_head-visited, for_visited}
+use Rattle.statements.proofs.BlockTurns.{block_done, block_visited, cell-low, block_less, turn_statement, turn_afforded, turn-stop, turn-next}
 use Rattle.statements.proofs.blocks.+convert_block_convert_for_loop_convert_if_convert_statement_convert_while_loop.Goals.{convert_if-then-has_otherwise+in_ok-convert_block-2, convert_if-else-has_otherwise}
 use Rattle.statements.proofs.blocks.+convert_block_convert_for_loop_convert_if_convert_statement_convert_while_loop.Goals as goal
 
@@ -28,9 +28,6 @@ done-stated k sc e = ap (λ (y : Result (Unit {0}) ConvertError). stated_with sc
 
 stop-stated : (k : List ℕ) (sc : Scope) {d : Result (Unit {0}) ConvertError} {z : ConvertError} → d ≡ Err z → stated k (Err z) ≡ stated_with sc (finished_with k d)
 stop-stated k sc e = ap (λ (y : Result (Unit {0}) ConvertError). stated_with sc (finished_with k y)) (sym e)
-
-pub convert_block-loop-cell-init : goal.convert_block-loop-cell-init
-convert_block-loop-cell-init t c = (block_start c.requires.converting.0 c.requires.converting.1 c.requires.body_at c.requires.turns, refl)
 
 pub convert_block-reference-r-requires : goal.convert_block-reference-r-requires
 convert_block-reference-r-requires t c = record { record_bytes_in_bounds = omega (arith, cell-low c.requires.converting.0 c.requires.converting.1 c.requires.body_at c.loop-cell.invariant.0 c.loop-cell-test.true, c.requires.converting.0.ready.keyed.good.whole); k_bound = omega arith }
@@ -53,15 +50,6 @@ convert_block-loop-cell-preserved t c = (turn-next c.requires.converting.0 c.req
 pub convert_block-returns : goal.convert_block-returns
 convert_block-returns t c = record { block_as = block_done c.requires.converting.0 c.requires.converting.1 c.requires.body_at c.loop-cell.invariant.0 c.loop-cell-test.false; visits = block_visited c.requires.converting.0 c.requires.converting.1 c.requires.body_at c.loop-cell.invariant.0 c.loop-cell-test.false }
 
-pub convert_for_loop-reference-body-requires : goal.convert_for_loop-reference-body-requires
-convert_for_loop-reference-body-requires t c = record { record_bytes_in_bounds = omega (arith, c.requires.kind.below, c.requires.converting.0.ready.keyed.good.whole); k_bound = omega arith }
-
-pub convert_for_loop-for_head-requires : goal.convert_for_loop-for_head-requires
-convert_for_loop-for_head-requires t c = record { converting = (c.requires.converting.0, c.requires.converting.1); kind = c.requires.kind; in_turn = begun-in_turn c.requires.converting.0 c.requires.kind c.requires.fresh c.requires.converting.1 }
-
-pub convert_for_loop-overflow_cast-r : goal.convert_for_loop-overflow_cast-r
-convert_for_loop-overflow_cast-r t c = omega (arith, c.requires.kind.below, c.requires.converting.0.ready.keyed.good.few)
-
 pub convert_for_loop-convert_block-requires : goal.convert_for_loop-convert_block-requires
 convert_for_loop-convert_block-requires t c = let h = for_list c.requires.converting.0 c.requires.converting.1 c.requires.kind c.reference-body.ensures in (omega (arith, h.0, c.decreases), ((for_converting c.requires.converting.0 c.requires.converting.1 c.requires.kind c.for_head.ensures.for_head_as (ap (stated _) c.in_ok-scope.was) c.with_loop.ensures c.reference-body.ensures, for_afforded c.requires.converting.0 c.requires.converting.1 c.requires.kind c.for_head.ensures.for_head_as (ap (stated _) c.in_ok-scope.was) c.with_loop.ensures c.reference-body.ensures), (h.1, (for_head-visited c.requires.converting.0 c.requires.kind c.requires.fresh c.for_head.ensures.for_head_as (ap (stated _) c.in_ok-scope.was) c.for_head.ensures.types).turns)))
 
@@ -76,15 +64,6 @@ convert_for_loop-returns-in_err-convert_block t c = let p = err_from_is_err_and 
 
 pub convert_for_loop-returns : goal.convert_for_loop-returns
 convert_for_loop-returns t c = record { finishes_as = for_next c.requires.converting.0 c.requires.converting.1 c.requires.kind c.for_head.ensures.for_head_as (ap (stated _) c.in_ok-scope.was) c.with_loop.ensures c.reference-body.ensures c.convert_block.ensures.block_as (ap (finished_with _) c.in_ok-convert_block.was) c.loop_end.ensures; visits = for_visited c.requires.converting.0 c.requires.kind c.requires.fresh c.for_head.ensures.for_head_as (ap (stated _) c.in_ok-scope.was) c.for_head.ensures.types refl c.reference-body.ensures c.convert_block.ensures.visits (ap (finished_with _) c.in_ok-convert_block.was) c.loop_end.ensures }
-
-pub convert_if-reference-then-requires : goal.convert_if-reference-then-requires
-convert_if-reference-then-requires t c = record { record_bytes_in_bounds = omega (arith, c.requires.kind.below, c.requires.converting.0.ready.keyed.good.whole); k_bound = omega arith }
-
-pub convert_if-reference-otherwise-requires : goal.convert_if-reference-otherwise-requires
-convert_if-reference-otherwise-requires t c = record { record_bytes_in_bounds = omega (arith, c.requires.kind.below, c.requires.converting.0.ready.keyed.good.whole); k_bound = omega arith }
-
-pub convert_if-if_head-requires : goal.convert_if-if_head-requires
-convert_if-if_head-requires t c = record { converting = (c.requires.converting.0, c.requires.converting.1); kind = c.requires.kind; in_turn = begun-in_turn c.requires.converting.0 c.requires.kind c.requires.fresh c.requires.converting.1 }
 
 pub convert_if-convert_block-requires : goal.convert_if-convert_block-requires
 convert_if-convert_block-requires t c = let h = then_list c.requires.converting.0 c.requires.converting.1 c.requires.kind c.reference-then.ensures in (omega (arith, h.0, c.decreases), ((finished_converting c.if_head.ensures.head_as (ap (finished_with _) c.in_ok-if_head.was) c.requires.converting.0, then_afforded c.requires.converting.0 c.requires.converting.1 c.requires.kind c.if_head.ensures.head_as (ap (finished_with _) c.in_ok-if_head.was) c.reference-then.ensures), (h.1, (head_visited c.requires.converting.0 c.requires.kind c.requires.fresh c.if_head.ensures.head_as (ap (finished_with _) c.in_ok-if_head.was) c.if_head.ensures.types).turns)))
@@ -119,15 +98,6 @@ convert_if-returns t c = elim c.if-has_otherwise.branch [
   | convert_if-else-has_otherwise w ↦ let j = rw (w.arena-is, w.k-is) at c.if_end.ensures in rw w.scratch-is (record { finishes_as = if-next c.requires.converting.0 c.requires.converting.1 c.requires.kind c.if_head.ensures.head_as (ap (finished_with _) c.in_ok-if_head.was) c.reference-then.ensures c.convert_block.ensures.block_as (ap (finished_with _) c.in_ok-convert_block.was) c.has_otherwise.ensures w.if-has_otherwise.false j; visits = if-visited c.requires.converting.0 c.requires.kind c.requires.fresh c.if_head.ensures.head_as (ap (finished_with _) c.in_ok-if_head.was) c.if_head.ensures.types c.reference-then.ensures c.convert_block.ensures.visits (ap (finished_with _) c.in_ok-convert_block.was) j c.has_otherwise.ensures refl w.if-has_otherwise.false })
 ]
 
-pub convert_statement-kind-node-requires : goal.convert_statement-kind-node-requires
-convert_statement-kind-node-requires t c = omega (arith, c.requires.statement.below, c.requires.converting.0.ready.keyed.good.whole)
-
-pub convert_statement-overflow_cast-r : goal.convert_statement-overflow_cast-r
-convert_statement-overflow_cast-r t c = omega (arith, c.requires.statement.below, c.requires.converting.0.ready.keyed.good.few)
-
-pub convert_statement-emit_comment-requires : goal.convert_statement-emit_comment-requires
-convert_statement-emit_comment-requires t c = (c.requires.converting.0.room, omega (arith, c.requires.converting.1.tables))
-
 pub convert_statement-bounds-k-1 : goal.convert_statement-bounds-k-1
 convert_statement-bounds-k-1 t c = in_words 1 _ _ (omega arith) c.emit_comment.ensures.next.room
 
@@ -142,10 +112,6 @@ convert_statement-convert_plain-requires t c = record { converting = (comment_co
 pub convert_statement-returns-then-node-le-KIND_CALL_STATEMENT : goal.convert_statement-returns-then-node-le-KIND_CALL_STATEMENT
 unfolding counted
 convert_statement-returns-then-node-le-KIND_CALL_STATEMENT t c = record { statement_as = commented_plain c.requires.converting.0 c.requires.converting.1 c.requires.statement (omega arith) c.emit_comment.ensures c.kind-node.ensures c.if-node-le-KIND_CALL_STATEMENT.true c.convert_plain.ensures.states_as; visits = plain_visited c.requires.converting.0 c.requires.converting.1 c.requires.statement c.requires.turns c.emit_comment.ensures c.convert_plain.ensures.states_as c.kind-node.ensures c.if-node-le-KIND_CALL_STATEMENT.true c.convert_plain.ensures.types }
-
-pub convert_statement-convert_jump-requires : goal.convert_statement-convert_jump-requires
-unfolding counted
-convert_statement-convert_jump-requires t c = record { converting = (comment_converting c.requires.converting.0 c.requires.converting.1 c.requires.statement (omega arith) c.emit_comment.ensures, comment_afforded c.requires.converting.0 c.requires.converting.1 c.requires.statement (omega arith) c.emit_comment.ensures); statement = (c.requires.statement, omega (arith, c.kind-node.ensures, c.if-node-ge-KIND_BREAK.true)) }
 
 pub convert_statement-returns-then-node-ge-KIND_BREAK : goal.convert_statement-returns-then-node-ge-KIND_BREAK
 unfolding counted
@@ -186,15 +152,6 @@ convert_statement-returns t c = record { statement_as = commented_for c.requires
 pub convert_statement-returns-in_err-convert_for_loop : goal.convert_statement-returns-in_err-convert_for_loop
 unfolding counted
 convert_statement-returns-in_err-convert_for_loop t c = let p = err_from_is_err_and c.from_residual-in_err-convert_for_loop.result c.from_residual-in_err-convert_for_loop.ensures.1 in rw (p.1, p.2) (record { statement_as = commented_for c.requires.converting.0 c.requires.converting.1 c.requires.statement (omega arith) c.emit_comment.ensures c.kind-node.ensures (stop-stated c.convert_for_loop.new.k c.args.c.scope c.in_err-convert_for_loop.was) (last-kind c.if-node-le-KIND_CALL_STATEMENT.false c.if-node-ge-KIND_BREAK.false c.if-node-eq-KIND_IF.false c.if-node-eq-KIND_WHILE.false) c.convert_for_loop.ensures.finishes_as; visits = stated-visited _ _ _ _ (stop-stated c.convert_for_loop.new.k c.args.c.scope c.in_err-convert_for_loop.was) c.convert_for_loop.ensures.visits })
-
-pub convert_while_loop-overflow_cast-r : goal.convert_while_loop-overflow_cast-r
-convert_while_loop-overflow_cast-r t c = omega (arith, c.requires.kind.below, c.requires.converting.0.ready.keyed.good.few)
-
-pub convert_while_loop-reference-body-requires : goal.convert_while_loop-reference-body-requires
-convert_while_loop-reference-body-requires t c = record { record_bytes_in_bounds = omega (arith, c.requires.kind.below, c.requires.converting.0.ready.keyed.good.whole); k_bound = omega arith }
-
-pub convert_while_loop-while_head-requires : goal.convert_while_loop-while_head-requires
-convert_while_loop-while_head-requires t c = record { converting = (c.requires.converting.0, c.requires.converting.1); kind = c.requires.kind; in_turn = begun-in_turn c.requires.converting.0 c.requires.kind c.requires.fresh c.requires.converting.1 }
 
 pub convert_while_loop-convert_block-requires : goal.convert_while_loop-convert_block-requires
 convert_while_loop-convert_block-requires t c = let h = while_list c.requires.converting.0 c.requires.converting.1 c.requires.kind c.reference-body.ensures in (omega (arith, h.0, c.decreases), ((while_converting c.requires.converting.0 c.requires.converting.1 c.requires.kind c.while_head.ensures.head_as (ap (finished_with _) c.in_ok-while_head.was) c.with_loop.ensures c.reference-body.ensures, while_afforded c.requires.converting.0 c.requires.converting.1 c.requires.kind c.while_head.ensures.head_as (ap (finished_with _) c.in_ok-while_head.was) c.with_loop.ensures c.reference-body.ensures), (h.1, (head_visited c.requires.converting.0 c.requires.kind c.requires.fresh c.while_head.ensures.head_as (ap (finished_with _) c.in_ok-while_head.was) c.while_head.ensures.types).turns)))

@@ -11,7 +11,7 @@ use Rattle.expressions.proofs.TypingLaws.{is-typed, is-kind, expr-low}
 use Rattle.statements.proofs.AroundLaws.{variable_type_lem, left_side, right_side}
 use Rattle.statements.proofs.ConvertLaws.{converts-most, converting_after}
 use Rattle.statements.proofs.ExprLaws.{typed_converting, typed-stop, typed-unary, typed-binary, typed_call, call-kind, operand_side, unary-part, unary-room, unary-stop, unary-next, fitted_converting, fitted-stop, fitted_logic, fitted-other, left_afforded, begin_room, other-left, other_afforded, other-room, other-right, other-next, logic_converting, logic_left_afforded, logic_left, logic_room, logic_right_converting, logic_right_afforded, logic_right, logic_end-room, logic_next}
-use Rattle.statements.proofs.ArgsLaws.{called_converting, called_afforded, called_stop, args-stop, finish_converting, finish_afforded, called_next, loop_start_lem, loop_end_lem, cell-low, next-less, loop_end-types, turn_in, turn-type, value_low, value_afforded, value_room, push-room, turn-stop, turn-value}
+use Rattle.statements.proofs.ArgsLaws.{called_converting, called_afforded, called_stop, args-stop, finish_converting, finish_afforded, called_next, loop_start_lem, loop_end_lem, cell-low, next-less, loop_end-types, turn_in, turn-type, value_low, value_afforded, turn-stop, turn-value}
 use Rattle.statements.proofs.TypedLaws.{refused-types, args-refused-types, leaf_types, typed-in_turn, unary_types_lem, binary_types_lem, call_types_lem, common_in-turn, common_types_lem, operand-types, left-in_turn, sides_types_lem, called_in_turn, called_types}
 use Prim.Native.Nat.{ℕ}
 use Rattle.statements.proofs.exprs.+convert_args_convert_binary_convert_call_value_convert_expr_convert_logic_convert_other_convert_unary.Goals.{convert_args-in-Expr+in_ok-o, convert_args-in_default}
@@ -21,26 +21,14 @@ use Rattle.statements.proofs.exprs.+convert_args_convert_binary_convert_call_val
 at_same : {c d : Converter} {k l : List ℕ} → c ≡ d → k ≡ l → at c k ≡ at d l
 at_same {d = d} {k = k} p q = ap (λ (z : Converter). at z k) p ∙ ap (at d) q
 
-pub convert_args-reference-cell-requires : goal.convert_args-reference-cell-requires
-convert_args-reference-cell-requires t c = record { record_bytes_in_bounds = omega (arith, c.requires.kind.below, c.requires.converting.0.ready.keyed.good.whole); k_bound = omega arith }
-
 pub convert_args-loop-cell-init : goal.convert_args-loop-cell-init
 convert_args-loop-cell-init t c = (loop_start_lem c.requires.converting.0 c.requires.converting.1 c.requires.kind c.requires.in_turn _ c.reference-cell.ensures, refl)
-
-pub convert_args-argument_at-requires : goal.convert_args-argument_at-requires
-convert_args-argument_at-requires t c = record { good = c.requires.converting.0.ready.keyed.good; args_at = c.loop-cell.invariant.0.cells; fact = c.loop-cell-test.true }
 
 pub convert_args-convert_expr-requires : goal.convert_args-convert_expr-requires
 convert_args-convert_expr-requires t c = let h = value_low c.requires.converting.0 c.requires.converting.1 c.requires.kind c.loop-cell.invariant.0 c.loop-cell-test.true c.argument_at.ensures c.in-Expr.is in (omega (arith, h.0, c.decreases), ((c.loop-cell.invariant.0.converting, value_afforded c.requires.converting.0 c.requires.converting.1 c.requires.kind c.loop-cell.invariant.0 c.loop-cell-test.true c.argument_at.ensures c.in-Expr.is), (h.1, turn_in c.requires.converting.0 c.requires.converting.1 c.requires.kind c.loop-cell.invariant.0 c.loop-cell-test.true)))
 
 pub convert_args-returns-in_err-o : goal.convert_args-returns-in_err-o
 convert_args-returns-in_err-o t c = let p = err_from_is_err_and c.from_residual.result c.from_residual.ensures.1 in rw (p.1, p.2) (record { call_args_as = turn-stop c.requires.converting.0 c.requires.converting.1 c.requires.kind c.loop-cell.invariant.0 c.loop-cell-test.true c.argument_at.ensures c.in-Expr.is c.convert_expr.ensures.converts_as (ap (converted _) c.in_err-o.was); types = args-refused-types })
-
-pub convert_args-push_operand-requires : goal.convert_args-push_operand-requires
-convert_args-push_operand-requires t c = push-room c.requires.converting.0 c.requires.converting.1 c.requires.kind c.loop-cell.invariant.0 c.loop-cell-test.true c.argument_at.ensures c.in-Expr.is c.convert_expr.ensures.converts_as
-
-pub convert_args-overflow_add-at : goal.convert_args-overflow_add-at
-convert_args-overflow_add-at t c = omega (arith, value_room c.requires.converting.0 c.requires.converting.1 c.requires.kind c.loop-cell.invariant.0 c.loop-cell-test.true c.argument_at.ensures c.in-Expr.is, c.requires.converting.0.ready.keyed.good.few)
 
 pub convert_args-next_cell-cell-requires : goal.convert_args-next_cell-cell-requires
 convert_args-next_cell-cell-requires t c = cell-low c.requires.converting.0 c.requires.converting.1 c.requires.kind c.loop-cell.invariant.0 c.loop-cell-test.true
@@ -54,17 +42,8 @@ convert_args-loop-cell-preserved t c = (
   omega (arith, c.match-argument_at.auto.k, c.loop-cell.invariant.1),
 )
 
-pub convert_args-overflow_sub-result : goal.convert_args-overflow_sub-result
-convert_args-overflow_sub-result t c = omega (arith, c.loop-cell.invariant.0.operands)
-
 pub convert_args-returns : goal.convert_args-returns
 convert_args-returns t c = record { call_args_as = loop_end_lem c.requires.converting.0 c.requires.converting.1 c.requires.kind c.loop-cell.invariant.0 c.loop-cell-test.false _ refl; types = loop_end-types c.requires.converting.0 c.requires.converting.1 c.requires.kind c.loop-cell.invariant.0 c.loop-cell-test.false _ }
-
-pub convert_binary-operand_type-requires : goal.convert_binary-operand_type-requires
-convert_binary-operand_type-requires t c = record { ready = c.requires.converting.0.ready; kind = (c.requires.kind.0, c.requires.kind.1); by_index = λ k. c.requires.in_turn }
-
-pub convert_binary-detail-requires : goal.convert_binary-detail-requires
-convert_binary-detail-requires t c = omega (arith, c.requires.kind.0.below, c.requires.converting.0.ready.keyed.good.whole)
 
 pub convert_binary-convert_logic-requires : goal.convert_binary-convert_logic-requires
 convert_binary-convert_logic-requires t c = (omega (arith, c.decreases), ((fitted_converting c.requires.converting.0 c.requires.kind.0 ((c.operand_type.ensures.by_index_2 c.args.k.now)), c.requires.converting.1), ((c.requires.kind.0, c.requires.kind.1), common_in-turn c.requires.converting.0 ((c.operand_type.ensures.by_index_2 c.args.k.now)) ((c.operand_type.ensures.types c.args.k.now)) c.in_ok-q.was)))
@@ -81,9 +60,6 @@ convert_binary-returns-in_err-q t c = let p = err_from_is_err_and c.from_residua
 pub convert_binary-returns : goal.convert_binary-returns
 convert_binary-returns t c = record { converts_as = fitted-other c.requires.converting.0 c.requires.kind.0 ((c.operand_type.ensures.by_index_2 c.args.k.now)) c.in_ok-q.was c.detail.ensures c.if-detail-le-AND.false c.convert_other.ensures.converts_as; types = common_types_lem c.requires.converting.0 ((c.operand_type.ensures.by_index_2 c.args.k.now)) ((c.operand_type.ensures.types c.args.k.now)) c.in_ok-q.was c.convert_other.ensures.types }
 
-pub convert_call_value-resolve_call-requires : goal.convert_call_value-resolve_call-requires
-convert_call_value-resolve_call-requires t c = record { typing = record { ready = c.requires.converting.0.ready; remembers = c.requires.in_turn }; kind = c.requires.kind.0 }
-
 pub convert_call_value-returns-in_err-callee : goal.convert_call_value-returns-in_err-callee
 convert_call_value-returns-in_err-callee t c = let p = err_from_is_err_and c.from_residual.result c.from_residual.ensures.1 in rw (p.1, p.2) (record { converts_as = called_stop c.requires.converting.0 c.requires.converting.1 c.requires.kind.0 c.resolve_call.ensures _ c.in_err-callee.was; types = refused-types })
 
@@ -99,17 +75,8 @@ convert_call_value-returns-in_err-count t c = let p = err_from_is_err_and c.from
 pub convert_call_value-returns : goal.convert_call_value-returns
 convert_call_value-returns t c = record { converts_as = called_next c.requires.converting.0 c.requires.converting.1 c.requires.kind.0 c.resolve_call.ensures c.convert_args.ensures.call_args_as (ap (converted_args _) c.in_ok-count.was) _ c.in_ok-callee.was (λ to m. c.finish_call.ensures.call_ends_as to (sym (ap (callee_of _ _) c.in_ok-callee.was) ∙ m)); types = called_types c.requires.converting.0 c.resolve_call.ensures c.in_ok-callee.was c.convert_args.ensures.types (ap (converted_args _) c.in_ok-count.was) c.finish_call.ensures.turns }
 
-pub convert_expr-kind-node-requires : goal.convert_expr-kind-node-requires
-convert_expr-kind-node-requires t c = c.requires.expr.inside
-
-pub convert_expr-operand-requires : goal.convert_expr-operand-requires
-convert_expr-operand-requires t c = record { converting = c.requires.converting.0; affords = omega (arith, c.requires.converting.1.tables); expr = (c.requires.expr, omega (arith, c.kind-node.ensures, c.if-node-le-KIND_SIZE_OF.true)) }
-
 pub convert_expr-returns-then-node-le-KIND_SIZE_OF : goal.convert_expr-returns-then-node-le-KIND_SIZE_OF
 convert_expr-returns-then-node-le-KIND_SIZE_OF t c = record { converts_as = converts-most (omega arith) c.operand.ensures; types = leaf_types c.requires.converting.0 c.requires.expr c.kind-node.ensures c.if-node-le-KIND_SIZE_OF.true c.requires.in_turn }
-
-pub convert_expr-get_type-requires : goal.convert_expr-get_type-requires
-convert_expr-get_type-requires t c = record { typing = record { ready = c.requires.converting.0.ready; remembers = c.requires.in_turn }; expr = c.requires.expr }
 
 pub convert_expr-convert_unary-requires : goal.convert_expr-convert_unary-requires
 convert_expr-convert_unary-requires t c = (omega (arith, c.decreases), ((typed_converting c.requires.converting.0 c.requires.expr c.get_type.ensures, c.requires.converting.1), ((is-kind _ _ c.requires.converting.0.ready.keyed.good _ _ c.requires.expr c.kind-node.ensures 9 c.if-node-eq-KIND_UNARY.true, is-typed _ _ _ c.get_type.ensures.typed c.in_ok-y.was), typed-in_turn c.requires.converting.0 c.get_type.ensures c.in_ok-y.was)))
@@ -131,12 +98,6 @@ convert_expr-returns-in_err-y t c = let p = err_from_is_err_and c.from_residual.
 
 pub convert_expr-returns : goal.convert_expr-returns
 convert_expr-returns t c = record { converts_as = typed_call c.requires.converting.0 c.requires.expr c.get_type.ensures c.kind-node.ensures c.in_ok-y.was (call-kind c.requires.expr c.kind-node.ensures c.if-node-le-KIND_SIZE_OF.false c.if-node-eq-KIND_UNARY.false c.if-node-eq-KIND_BINARY.false) c.convert_call_value.ensures.converts_as; types = call_types_lem c.requires.converting.0 c.get_type.ensures c.in_ok-y.was c.requires.expr c.kind-node.ensures (call-kind c.requires.expr c.kind-node.ensures c.if-node-le-KIND_SIZE_OF.false c.if-node-eq-KIND_UNARY.false c.if-node-eq-KIND_BINARY.false) c.convert_call_value.ensures.types }
-
-pub convert_logic-reference-left-requires : goal.convert_logic-reference-left-requires
-convert_logic-reference-left-requires t c = record { record_bytes_in_bounds = omega (arith, c.requires.kind.0.below, c.requires.converting.0.ready.keyed.good.whole); k_bound = omega arith }
-
-pub convert_logic-reference-right-requires : goal.convert_logic-reference-right-requires
-convert_logic-reference-right-requires t c = record { record_bytes_in_bounds = omega (arith, c.requires.kind.0.below, c.requires.converting.0.ready.keyed.good.whole); k_bound = omega arith }
 
 pub convert_logic-begin_logic-dest-requires : goal.convert_logic-begin_logic-dest-requires
 convert_logic-begin_logic-dest-requires t c = let h = begin_room c.requires.converting.0 c.requires.converting.1 c.requires.kind.0 c.reference-left.ensures c.reference-right.ensures in (h.0, h.1, omega (arith, c.requires.kind.1.below, c.requires.converting.0.ready.keyed.good.few))
@@ -162,15 +123,6 @@ convert_logic-returns-in_err-b t c = let p = err_from_is_err_and c.from_residual
 pub convert_logic-returns : goal.convert_logic-returns
 convert_logic-returns t c = record { converts_as = logic_next c.requires.converting.0 c.requires.converting.1 c.requires.kind.0 c.reference-left.ensures c.reference-right.ensures _ c.begin_logic-dest.ensures.adds c.convert_expr.ensures.converts_as (ap (converted _) c.in_ok-a.was) c.join_logic.ensures c.convert_expr-2.ensures.converts_as (ap (converted _) c.in_ok-b.was) (c.end_logic.ensures _ (variable_type_lem c.begin_logic-dest.ensures.typed c.requires.kind.1)) refl; types = sides_types_lem c.requires.converting.0 _ c.reference-left.ensures c.convert_expr.ensures.types (ap (converted _) c.in_ok-a.was) c.convert_expr.ensures.converts_as.stays c.reference-right.ensures c.convert_expr-2.ensures.types (ap (converted _) c.in_ok-b.was) }
 
-pub convert_other-detail-op-requires : goal.convert_other-detail-op-requires
-convert_other-detail-op-requires t c = omega (arith, c.requires.kind.0.below, c.requires.converting.0.ready.keyed.good.whole)
-
-pub convert_other-reference-left-requires : goal.convert_other-reference-left-requires
-convert_other-reference-left-requires t c = record { record_bytes_in_bounds = omega (arith, c.requires.kind.0.below, c.requires.converting.0.ready.keyed.good.whole); k_bound = omega arith }
-
-pub convert_other-reference-right-requires : goal.convert_other-reference-right-requires
-convert_other-reference-right-requires t c = record { record_bytes_in_bounds = omega (arith, c.requires.kind.0.below, c.requires.converting.0.ready.keyed.good.whole); k_bound = omega arith }
-
 pub convert_other-convert_expr-requires : goal.convert_other-convert_expr-requires
 convert_other-convert_expr-requires t c = let h = left_side c.requires.converting.0.ready.keyed.good c.requires.kind.0 c.reference-left.ensures in (omega (arith, h.0, c.decreases), ((c.requires.converting.0, left_afforded c.requires.converting.0 c.requires.converting.1 c.requires.kind.0 c.reference-left.ensures c.reference-right.ensures), (h.1, c.requires.in_turn)))
 
@@ -188,12 +140,6 @@ convert_other-returns-in_err-b t c = let p = err_from_is_err_and c.from_residual
 
 pub convert_other-returns : goal.convert_other-returns
 convert_other-returns t c = record { converts_as = other-next c.requires.converting.0 c.requires.converting.1 c.requires.kind.0 c.reference-left.ensures c.reference-right.ensures c.convert_expr.ensures.converts_as (ap (converted _) c.in_ok-a.was) c.convert_expr-2.ensures.converts_as _ _ c.detail-op.ensures (ap (converted _) c.in_ok-b.was) (c.finish_binary.ensures _) refl; types = sides_types_lem c.requires.converting.0 _ c.reference-left.ensures c.convert_expr.ensures.types (ap (converted _) c.in_ok-a.was) c.convert_expr.ensures.converts_as.stays c.reference-right.ensures c.convert_expr-2.ensures.types (ap (converted _) c.in_ok-b.was) }
-
-pub convert_unary-detail-op-requires : goal.convert_unary-detail-op-requires
-convert_unary-detail-op-requires t c = omega (arith, c.requires.kind.0.below, c.requires.converting.0.ready.keyed.good.whole)
-
-pub convert_unary-reference-part-requires : goal.convert_unary-reference-part-requires
-convert_unary-reference-part-requires t c = record { record_bytes_in_bounds = omega (arith, c.requires.kind.0.below, c.requires.converting.0.ready.keyed.good.whole); k_bound = omega arith }
 
 pub convert_unary-convert_expr-requires : goal.convert_unary-convert_expr-requires
 convert_unary-convert_expr-requires t c = let h = operand_side c.requires.converting.0.ready.keyed.good c.requires.kind.0 c.reference-part.ensures in (omega (arith, h.0, c.decreases), ((c.requires.converting.0, unary-part c.requires.converting.0 c.requires.converting.1 c.requires.kind.0 c.reference-part.ensures), (h.1, c.requires.in_turn)))

@@ -1,23 +1,14 @@
 -- The first value of a list of arguments goes to the parameter beside it, where every type before it took one.
 -- By the laws of the walk past a type and of its two ends, and a number that falls with each cell. Assumes nothing.
 use Rattle.syntax.proofs.Lists.{cell_below, next_falls}
-use Rattle.statements.proofs.PositionLaws.{walk_start, walk_end, at_value, past-type}
+use Rattle.statements.proofs.PositionLaws.{walk_end, at_value, past-type}
 use Rattle.statements.proofs.fits.first_value.Goals as goal
-
-pub loop-cell-init : goal.loop-cell-init
-loop-cell-init c = walk_start _ _ _ _ c.requires.1 c.requires.2
 
 pub next_cell-next-requires : goal.next_cell-next-requires
 next_cell-next-requires c = cell_below _ _ c.requires.0 _ _ c.loop-cell.invariant.args c.loop-cell-test.true
 
-pub argument_at-requires : goal.argument_at-requires
-argument_at-requires c = record { good = c.requires.0; args_at = c.loop-cell.invariant.args; fact = c.loop-cell-test.true }
-
 pub returns-in-Expr : goal.returns-in-Expr
 returns-in-Expr c = at_value _ _ c.requires.0 _ _ _ _ c.loop-cell.invariant c.loop-cell-test.true _ c.next_cell-next.ensures _ c.argument_at.ensures _ c.in-Expr.is
-
-pub next_parameter-beside-requires : goal.next_parameter-beside-requires
-next_parameter-beside-requires c = (c.requires.0, c.loop-cell.invariant.params)
 
 pub loop-cell-smaller : goal.loop-cell-smaller
 loop-cell-smaller c = next_falls _ _ c.requires.0 _ _ _ c.loop-cell.invariant.args c.loop-cell-test.true c.next_cell-next.ensures

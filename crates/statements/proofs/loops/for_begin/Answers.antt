@@ -4,18 +4,14 @@ use Rattle.std.proofs.lemmas.Result.{err_from_is_err_and}
 use Rattle.statements.specs.Turns.{expr_types}
 use mathlib.Core.Path.{ap, ◌∙◌}
 use mathlib.Core.List.{[]}
-use native.Mathlib.Omega.{arith}
 use Rattle.statements.proofs.ConvertLaws.{converted-next}
 use Rattle.statements.proofs.StayLaws.{record_counted}
-use Rattle.statements.proofs.HeadLaws.{first_bound, bound_afforded, bound_room, count_room, bound_operand, begin_refused, begin_done, refused-finished, operand-typed}
+use Rattle.statements.proofs.HeadLaws.{first_bound, bound_afforded, count_room, begin_refused, begin_done, refused-finished, operand-typed}
 use Rattle.statements.specs.Lent.{at, converted}
 use Rattle.statements.proofs.loops.for_begin.Goals as goal
 
 pub convert_expr-requires : goal.convert_expr-requires
 convert_expr-requires c = record { converting = (c.requires.converting.0, bound_afforded _ _ c.requires.converting.0 c.requires.converting.1 c.reference-from.ensures); expr = first_bound c.requires.converting.0.ready.keyed.good c.requires.kind.0 c.reference-from.ensures; in_turn = c.requires.in_turn }
-
-pub copy_fitted-requires : goal.copy_fitted-requires
-copy_fitted-requires c = (bound_room _ _ c.requires.converting.0 c.requires.converting.1 c.reference-from.ensures c.convert_expr.ensures.converts_as (ap (converted _) c.in_ok-a.was) (omega arith), c.requires.kind.1, bound_operand _ _ c.requires.converting.0 c.requires.converting.1 c.reference-from.ensures c.convert_expr.ensures.converts_as (ap (converted _) c.in_ok-a.was))
 
 pub count_on-requires : goal.count_on-requires
 count_on-requires c = (count_room _ _ c.requires.converting.0 c.requires.converting.1 c.reference-from.ensures c.convert_expr.ensures.converts_as (ap (converted _) c.in_ok-a.was) (c.copy_fitted.ensures []), record_counted c.requires.converting.0 c.requires.kind.0 ((c.copy_fitted.ensures []).spent.records ∙ (converted-next c.convert_expr.ensures.converts_as (ap (converted _) c.in_ok-a.was)).spent.records), c.requires.kind.1)

@@ -11,9 +11,6 @@ word-requires c = (variable-inside c.requires.converting.0.ready.keyed.good c.re
 pub declare_name-requires : goal.declare_name-requires
 declare_name-requires c = declare_asks c.requires.converting.0 c.requires.converting.1 c.requires.kind.0 c.requires.kind.1 c.requires.kind.2 c.word.ensures (omega arith) c.new_var-x.ensures
 
-pub error_at-requires : goal.error_at-requires
-error_at-requires c = omega (arith, c.requires.kind.0.below, c.requires.converting.0.ready.keyed.good.few)
-
 pub returns-in_default : goal.returns-in_default
 returns-in_default c = record { variable_as = for_taken c.requires.converting.0 c.requires.converting.1 c.requires.kind.0 c.requires.kind.1 c.requires.kind.2 c.word.ensures (omega arith) c.new_var-x.ensures _ c.declare_name.ensures (none-left _ c.in_default.not-Some) c.error_at.ensures; types = refused-variable }
 

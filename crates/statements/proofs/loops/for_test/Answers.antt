@@ -3,18 +3,12 @@
 use Rattle.std.proofs.lemmas.Result.{err_from_is_err_and}
 use mathlib.Core.Path.{ap}
 use Rattle.statements.specs.Turns.{expr_types}
-use native.Mathlib.Omega.{arith}
-use Rattle.statements.proofs.ConvertLaws.{converted-next}
-use Rattle.statements.proofs.StayLaws.{record_counted}
-use Rattle.statements.proofs.HeadLaws.{second_bound, bound_afforded, bound_room, bound_operand, test-refused, test-done, refused-finished, operand-typed}
+use Rattle.statements.proofs.HeadLaws.{second_bound, bound_afforded, test-refused, test-done, refused-finished, operand-typed}
 use Rattle.statements.specs.Lent.{at, converted}
 use Rattle.statements.proofs.loops.for_test.Goals as goal
 
 pub convert_expr-requires : goal.convert_expr-requires
 convert_expr-requires c = record { converting = (c.requires.converting.0, bound_afforded _ _ c.requires.converting.0 c.requires.converting.1 c.reference-until.ensures); expr = second_bound c.requires.converting.0.ready.keyed.good c.requires.kind.0 c.reference-until.ensures; in_turn = c.requires.in_turn }
-
-pub test_bound-requires : goal.test_bound-requires
-test_bound-requires c = (bound_room _ _ c.requires.converting.0 c.requires.converting.1 c.reference-until.ensures c.convert_expr.ensures.converts_as (ap (converted _) c.in_ok-b.was) (omega arith), record_counted c.requires.converting.0 c.requires.kind.0 (converted-next c.convert_expr.ensures.converts_as (ap (converted _) c.in_ok-b.was)).spent.records, c.requires.kind.1, bound_operand _ _ c.requires.converting.0 c.requires.converting.1 c.reference-until.ensures c.convert_expr.ensures.converts_as (ap (converted _) c.in_ok-b.was))
 
 pub returns-in_err-b : goal.returns-in_err-b
 returns-in_err-b c = let p = err_from_is_err_and c.from_residual.result c.from_residual.ensures.1 in rw (p.1, p.2) (record { bound_as = (test-refused _ _ c.reference-until.ensures c.convert_expr.ensures.converts_as (ap (converted _) c.in_err-b.was), c.convert_expr.ensures.converts_as.names); types = refused-finished })

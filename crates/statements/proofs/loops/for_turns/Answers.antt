@@ -13,9 +13,6 @@ use Rattle.statements.proofs.loops.for_turns.Goals as goal
 pub returns-then-form-ne-FORM_INT : goal.returns-then-form-ne-FORM_INT
 returns-then-form-ne-FORM_INT c = record { turns_as = (turns-not_int _ _ c.requires.converting.0 c.form.ensures c.if-form-ne-FORM_INT.true c.error_at.ensures, names_refl _ _); types = refused-finished }
 
-pub for_bounds-requires : goal.for_bounds-requires
-for_bounds-requires c = record { ready = (c.requires.converting.0.ready, c.requires.kind.0, c.requires.kind.1); by_index = λ k. c.requires.in_turn }
-
 pub for_begin-requires : goal.for_begin-requires
 for_begin-requires c = record { converting = (checks_converting c.requires.converting.0 (c.for_bounds.ensures.by_index_2 c.args.k.now), omega (arith, c.requires.converting.1)); kind = c.requires.kind; in_turn = checked_in_turn (at c.args.c c.args.k.now) c.requires.converting.0.ready.scoped (c.for_bounds.ensures.by_index_2 c.args.k.now) (c.for_bounds.ensures.types c.args.k.now) c.in_ok-for_bounds.was }
 

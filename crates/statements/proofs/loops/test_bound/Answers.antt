@@ -15,11 +15,5 @@ emit_binary-requires c = (c.new_var-cond.ensures.next.room, omega (arith, c.requ
 pub jump_if_not-requires : goal.jump_if_not-requires
 jump_if_not-requires c = (record { room = c.emit_binary.ensures.next.room; affords = omega (arith, c.requires.0.affords, (c.fit_operand-bound.ensures []).adds.spent, c.new_var-cond.ensures.spent, c.emit_binary.ensures.spent) }, omega (arith, c.requires.1, (c.fit_operand-bound.ensures []).adds.spent, c.new_var-cond.ensures.spent, c.emit_binary.ensures.spent))
 
-pub shape_of-arena : goal.shape_of-arena
-shape_of-arena c = omega (arith, (c.fit_operand-bound.ensures []).adds.long, c.arena-2-1.given, c.arena-3-1.given, c.jump_if_not.ensures.long)
-
-pub shape_of-k : goal.shape_of-k
-shape_of-k c = omega (arith, c.k-4-1.given, c.k-3-1.given, c.k-2-1.given, c.k-1.given)
-
 pub returns : goal.returns
 returns c = λ text. test-adds (program _ text) _ c.args.until (c.fit_operand-bound.ensures text) (omega (arith, c.arena-2-1.given)) c.new_var-cond.ensures (omega (arith, c.arena-3-1.given)) c.emit_binary.ensures c.jump_if_not.ensures

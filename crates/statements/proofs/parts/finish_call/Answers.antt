@@ -9,15 +9,6 @@ use mathlib.Core.Path.{ap}
 use Rattle.std.specs.Prelude.{Ok}
 use Rattle.statements.proofs.parts.finish_call.Goals as goal
 
-pub overflow_cast-y : goal.overflow_cast-y
-overflow_cast-y c = omega (arith, c.requires.kind.1.below, c.requires.converting.0.ready.keyed.good.few)
-
-pub new_var-dest-requires : goal.new_var-dest-requires
-new_var-dest-requires c = (c.requires.converting.0.room, omega (arith, c.requires.converting.1.tables))
-
-pub cast_first-requires : goal.cast_first-requires
-cast_first-requires c = record { converting = (converting_next c.requires.converting.0 (next_in _ c.new_var-dest.ensures.next) (stays_refl _ _ _ _), omega (arith, c.requires.converting.1, c.new_var-dest.ensures.spent)); e_bound = (omega (arith, c.requires.kind.0.below, c.requires.converting.0.ready.keyed.good.few), variable_type_lem c.new_var-dest.ensures.typed c.requires.kind.1) }
-
 pub call_function-requires : goal.call_function-requires
 call_function-requires c = record { converting = (converting_next c.requires.converting.0 (next_in _ c.new_var-dest.ensures.next) (stays_refl _ _ _ _), omega (arith, c.requires.converting.1, c.new_var-dest.ensures.spent)); function_at = (function-callee c.requires.kind.2 (ap Ok c.in-Function.is), c.requires.kind.0, variable_type_lem c.new_var-dest.ensures.typed c.requires.kind.1, c.requires.kind.3) }
 

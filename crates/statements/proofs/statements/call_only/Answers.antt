@@ -14,9 +14,6 @@ convert_args-requires c = record { converting = (c.requires.converting.0, values
 pub pass_args-requires : goal.pass_args-requires
 pass_args-requires c = record { converting = (values_converting c.requires.converting.0 c.requires.converting.1 c.requires.kind.0 c.convert_args.ensures.call_args_as (ap (converted_args _) c.in_ok-count.was), c.requires.kind.1, c.requires.kind.0); afforded = (values_room c.requires.converting.0 c.requires.converting.1 c.requires.kind.0 c.convert_args.ensures.call_args_as (ap (converted_args _) c.in_ok-count.was), values_typed c.requires.converting.0 c.requires.converting.1 c.requires.kind.0 c.convert_args.ensures.call_args_as (ap (converted_args _) c.in_ok-count.was)) }
 
-pub overflow_cast-f : goal.overflow_cast-f
-overflow_cast-f c = omega (arith, c.requires.kind.1.below, c.requires.converting.0.ready.keyed.good.few)
-
 pub emit_call_only-requires : goal.emit_call_only-requires
 emit_call_only-requires c = passed-room c.requires.converting.0 c.requires.converting.1 c.requires.kind.0 c.convert_args.ensures.call_args_as (ap (converted_args _) c.in_ok-count.was) c.pass_args.ensures.adds
 

@@ -3,14 +3,11 @@
 use Rattle.std.proofs.lemmas.Result.{err_from_is_err_and}
 use mathlib.Core.Path.{ap, ◌∙◌}
 use Rattle.std.specs.Prelude.{Ok}
-use Rattle.statements.proofs.PlainTurns.{typing_in, refused-stated}
+use Rattle.statements.proofs.PlainTurns.{refused-stated}
 use Rattle.statements.proofs.AroundLaws.{function-callee}
 use Rattle.statements.proofs.ArgsLaws.{called_converting}
 use Rattle.statements.proofs.ReturnLaws.{statement_afforded, resolved_stop, resolved_cast, resolved_function, resolved_turn, resolved_types}
 use Rattle.statements.proofs.statements.call_statement.Goals as goal
-
-pub resolve_call-requires : goal.resolve_call-requires
-resolve_call-requires c = record { typing = typing_in c.requires.converting.0 c.requires.in_turn; kind = c.requires.kind.1 }
 
 pub call_only-requires : goal.call_only-requires
 call_only-requires c = record { converting = (called_converting c.requires.converting.0 (statement_afforded c.requires.converting.0 c.requires.converting.1 c.requires.kind.0 c.requires.kind.2) c.requires.kind.1 c.resolve_call.ensures, statement_afforded c.requires.converting.0 c.requires.converting.1 c.requires.kind.0 c.requires.kind.2); kind = (c.requires.kind.1, function-callee c.resolve_call.ensures.callee (c.in_ok-resolve_call.was ∙ ap Ok c.in-Function.is)); in_turn = resolved_turn c.requires.converting.0 c.requires.converting.1 c.requires.kind.0 c.requires.kind.2 c.requires.kind.1 c.resolve_call.ensures (c.in_ok-resolve_call.was ∙ ap Ok c.in-Function.is) }

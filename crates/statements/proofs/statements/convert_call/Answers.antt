@@ -13,9 +13,6 @@ kind-requires c = (called_expr c.requires.converting.0.ready.keyed.good c.refere
 pub call_statement-requires : goal.call_statement-requires
 call_statement-requires c = record { converting = c.requires.converting; kind = (c.requires.kind, record { below = expr-low _ _ c.requires.converting.0.ready.keyed.good _ (called_expr c.requires.converting.0.ready.keyed.good c.reference-e.ensures c.requires.kind); kind = sym c.kind.ensures ∙ c.if-kind-eq-KIND_CALL.true }, c.reference-e.ensures); in_turn = c.requires.in_turn }
 
-pub returns-then-kind-eq-KIND_CALL : goal.returns-then-kind-eq-KIND_CALL
-returns-then-kind-eq-KIND_CALL c = record { states_as = c.call_statement.ensures.states_as; types = c.call_statement.ensures.types }
-
 pub get_type-requires : goal.get_type-requires
 get_type-requires c = record { typing = typing_in c.requires.converting.0 c.requires.in_turn; expr = called_expr c.requires.converting.0.ready.keyed.good c.reference-e.ensures c.requires.kind }
 

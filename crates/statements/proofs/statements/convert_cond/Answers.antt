@@ -1,14 +1,11 @@
 -- The operand of a condition, which is a Bool.
 -- It is typed first; any other type is refused. Assumes nothing.
 use Rattle.std.proofs.lemmas.Result.{err_from_is_err_and}
-use Rattle.statements.proofs.PlainTurns.{typing_in, value-next}
+use Rattle.statements.proofs.PlainTurns.{value-next}
 use Rattle.statements.proofs.TypedLaws.{refused-types, typed-in_turn}
 use Rattle.statements.proofs.StatedLaws.{type_converting}
 use Rattle.statements.proofs.ReturnLaws.{cond_stop, cond_other, cond_is}
 use Rattle.statements.proofs.statements.convert_cond.Goals as goal
-
-pub get_type-requires : goal.get_type-requires
-get_type-requires c = record { typing = typing_in c.requires.converting.0 c.requires.in_turn; expr = c.requires.expr }
 
 pub convert_expr-requires : goal.convert_expr-requires
 convert_expr-requires c = record { converting = (type_converting c.requires.converting.0 c.get_type.ensures, c.requires.converting.1); expr = c.requires.expr; in_turn = typed-in_turn c.requires.converting.0 c.get_type.ensures c.in_ok-y.was }

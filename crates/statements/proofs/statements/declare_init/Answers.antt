@@ -12,12 +12,6 @@ overflow_cast-init_type c = omega (arith, (new_type_lem c.requires.converting.0 
 pub declare_name-requires : goal.declare_name-requires
 declare_name-requires c = new_requires c.requires.converting.0 c.requires.converting.1 c.requires.kind.0 c.requires.kind.1 c.init_type.ensures (omega (arith, c.arena-1.given)) c.new_var-v.ensures
 
-pub error_at-requires : goal.error_at-requires
-error_at-requires c = omega (arith, c.requires.kind.0.below, c.requires.converting.0.ready.keyed.good.few)
-
-pub emit_copy-requires : goal.emit_copy-requires
-emit_copy-requires c = (c.new_var-v.ensures.next.room, omega (arith, c.requires.converting.1.tables, c.new_var-v.ensures.spent))
-
 pub returns-in_default : goal.returns-in_default
 returns-in_default c = record { declares_as = new-taken c.requires.converting.0 c.requires.converting.1 c.requires.kind.0 c.requires.kind.1 c.init_type.ensures (omega (arith, c.arena-1.given)) c.new_var-v.ensures c.args.src c.detail-constant.ensures c.declare_name.ensures (none-left _ c.in_default.not-Some) c.error_at.ensures; types = refused-stated }
 

@@ -3,14 +3,11 @@
 use mathlib.Core.Path.{sym, ap, ◌∙◌}
 use Rattle.int128.specs.Value.{checked_of}
 use Rattle.int128.proofs.Compare.{eq-is}
-use Rattle.types.proofs.FoldCases.{shift_nothing, back_nothing, back_same, back_other, true_false}
+use Rattle.types.proofs.FoldCases.{shift_nothing, back_same, back_other, true_false}
 use Rattle.types.proofs.int_value.fold_shl.Goals as goal
 
 pub returns-in_err-v : goal.returns-in_err-v
 returns-in_err-v c = ap checked_of c.from_residual.ensures ∙ shift_nothing _ _ _ c.checked_shl_by.ensures c.in_err-v.was
-
-pub returns-in_err-back : goal.returns-in_err-back
-returns-in_err-back c = ap checked_of c.from_residual-in_err-back.ensures ∙ back_nothing _ _ _ c.checked_shl_by.ensures _ c.in_ok-v.was _ c.checked_shr_by.ensures c.in_err-back.was
 
 pub returns-then-eq : goal.returns-then-eq
 returns-then-eq c = back_same _ _ _ c.checked_shl_by.ensures _ c.in_ok-v.was _ c.checked_shr_by.ensures _ c.in_ok-back.was ((eq-is c.in_ok-back.back c.args.left).0 (sym c.eq.ensures ∙ c.if-eq.true))

@@ -6,5 +6,4 @@ use borrow.Author.Rules.{rules}
 use Rattle.int128.proofs.bits.Int128BitAnd.bitand.Goals as goal
 
 pub returns : goal.returns
-returns c = let s = c.args in
-    by_halves bit_and and_block s.self s.other (search rules) (search rules)
+returns c = by_halves bit_and and_block c.args.self c.args.other (search rules) (search rules)
