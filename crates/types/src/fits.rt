@@ -44,10 +44,7 @@ fn to_nothing(tree: &[u8], from: usize, to: usize) -> bool
     requires record_bytes_in_bounds_2 { to * record_bytes + record_bytes ≤ length tree.now }
     ensures { result ≡ (eqb (word_of tree.now from Words.A) null_type || eqb (word_of tree.now to Words.A) null_type) }
 {
-    if reference(tree, from, WORD_A) == NULL_TYPE {
-        return true;
-    }
-    reference(tree, to, WORD_A) == NULL_TYPE
+    reference(tree, from, WORD_A) == NULL_TYPE || reference(tree, to, WORD_A) == NULL_TYPE
 }
 
 // Where the two types are not equal.
@@ -73,10 +70,7 @@ pub fn fits(tree: &[u8], e: usize, ty: usize, expected: usize) -> bool
     requires fact_2 { IsType tree.now expected }
     ensures { (text : List ℕ) → result ≡ fits_at tree.now text e ty expected }
 {
-    if ty == expected {
-        return true;
-    }
-    fits_into(tree, e, ty, expected)
+    ty == expected || fits_into(tree, e, ty, expected)
 }
 
 fn is_int_constant(tree: &[u8], e: usize) -> bool
@@ -115,8 +109,5 @@ pub fn range_error(tree: &[u8], e: usize, ty: usize, expected: usize) -> bool
     requires fact_2 { IsType tree.now expected }
     ensures { (text : List ℕ) → result ≡ range_error_at tree.now text e ty expected }
 {
-    if is_literal(tree, e, ty, expected) {
-        return !fits(tree, e, ty, expected);
-    }
-    false
+    is_literal(tree, e, ty, expected) && !fits(tree, e, ty, expected)
 }
