@@ -60,13 +60,13 @@ module _ (tree : List ℕ) (r : ℕ) {node : ℕ} (e : node ≡ kind_of tree r) 
     unfolding pick
     plain_declare h p = rw (yes 15 h) p
 
-    pub plain_init : (node ≡ 15 → ⊥) → node ≡ 16 → StatesAs init_steps c r tree text l s a l' s' → StatesAs plain_steps c r tree text l s a l' s'
+    pub plain_init : node ≡ 16 → StatesAs init_steps c r tree text l s a l' s' → StatesAs plain_steps c r tree text l s a l' s'
     unfolding pick
-    plain_init n h p = rw (no 15 n, yes 16 h) p
+    plain_init h p = rw (no 15 (λ e. omega arith), yes 16 h) p
 
-    pub plain_return : (node ≡ 15 → ⊥) → (node ≡ 16 → ⊥) → node ≡ 17 → StatesAs return_steps c r tree text l s a l' s' → StatesAs plain_steps c r tree text l s a l' s'
+    pub plain_return : node ≡ 17 → StatesAs return_steps c r tree text l s a l' s' → StatesAs plain_steps c r tree text l s a l' s'
     unfolding pick
-    plain_return n n' h p = rw (no 15 n, no 16 n', yes 17 h) p
+    plain_return h p = rw (no 15 (λ e. omega arith), no 16 (λ e. omega arith), yes 17 h) p
 
     pub plain_call : (node ≡ 15 → ⊥) → (node ≡ 16 → ⊥) → (node ≡ 17 → ⊥) → StatesAs call_statement_steps c r tree text l s a l' s' → StatesAs plain_steps c r tree text l s a l' s'
     unfolding pick

@@ -41,17 +41,12 @@ fn convert_plain(
     ensures states_as { StatesAs plain_steps (at c k.old) r tree.now text.now arena.old scratch.old (stated k.new result) arena.new scratch.new }
     ensures types { StatesTyped own_types (at c k.old) r tree.now text.now scratch.old (stated k.new result) scratch.new }
 {
-    let node = kind(tree, r);
-    if node == KIND_DECLARE {
-        return convert_declare(tree, text, arena, scratch, k, c, r);
+    match kind(tree, r) {
+        KIND_DECLARE => convert_declare(tree, text, arena, scratch, k, c, r),
+        KIND_INIT => convert_init(tree, text, arena, scratch, k, c, r),
+        KIND_RETURN => convert_return(tree, text, arena, scratch, k, c, r),
+        _ => convert_call(tree, text, arena, scratch, k, c, r),
     }
-    if node == KIND_INIT {
-        return convert_init(tree, text, arena, scratch, k, c, r);
-    }
-    if node == KIND_RETURN {
-        return convert_return(tree, text, arena, scratch, k, c, r);
-    }
-    convert_call(tree, text, arena, scratch, k, c, r)
 }
 
 // The Break or Continue r, behind its comment.
