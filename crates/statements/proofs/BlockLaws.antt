@@ -86,10 +86,6 @@ module _ (tree : List ℕ) (r : ℕ) {node : ℕ} (e : node ≡ kind_of tree r) 
 abbrev pub begun : Converter → Counters → Converter
 begun c k = record { scope = c.scope; counters = k; operands = c.operands; turn = k.instructions }
 
--- the kind that is left when all others are excluded
-pub last-kind : {node : ℕ} → 18 < node → node < 22 → (node ≡ 19 → ⊥) → (node ≡ 20 → ⊥) → node ≡ 21
-last-kind a b c d = omega arith
-
 module _ (tree text : List ℕ) (good : Good tree text) (s : List ℕ) (c : Converter) (r : ℕ) (h : r < records tree) where
   plain_by : (i : ℕ) → i ≤ 3 → kind_of tree r ≡ 15 + i → statement_steps tree text s c r ≡ emit (Comment r) >> plain_steps tree text s c r
   unfolding convert_statement pick
