@@ -1,6 +1,7 @@
 -- The function of a verb and its arguments: by the verb, by a whole name, and these and the longest prefix one after the other, as the code looks for them.
 -- By the laws of a key looked for and of what a walk along its chain finds. Assumes nothing.
-use Rattle.std.specs.Prelude.{Option as StdOption, Some, None}
+use Rattle.std.specs.Prelude.{Option as StdOption, Some, None, MatchOption}
+use Rattle.std.specs.Bool.{then_some}
 use mathlib.Core.Path.{◌≡◌, refl, sym, ap, ◌∙◌}
 use mathlib.Core.Bool.{Bool, true, false}
 use mathlib.Core.List.{List}
@@ -15,7 +16,7 @@ use Rattle.records.specs.Words.{text_at, word_at, records}
 use Rattle.syntax.specs.Syntax.{Text, Function}
 use Rattle.syntax.specs.Decode.{program}
 use Rattle.conversion.specs.Ir.{same_text}
-use Rattle.conversion.specs.Expressions.{is_mangled, takes_both, get_function, filter_option, suffixes, joined, mangled_function, variadic_function, find_exact_function}
+use Rattle.conversion.specs.Expressions.{is_mangled, get_function, filter_option, suffixes, joined, mangled_function, find_exact_function}
 use Rattle.records.proofs.RollLaws.{roll_small}
 use Rattle.records.proofs.TextLaws.{other-lengths}
 use Rattle.keys.specs.declared.parts.Part.{Part}
@@ -25,7 +26,7 @@ use Rattle.keys.specs.Parts.{PartIs}
 use Rattle.texts.specs.Texts.{text_digest_at, Numbered}
 use Rattle.texts.proofs.TextLaws.{original-below, original-digest}
 use Rattle.keys.specs.Keys.{function_key, all_keys, Keyed, FindsKey, function_found, FunctionFound, FunctionIs, a_function, none_found}
-use Rattle.expressions.specs.Calls.{typed_at, suffixes_at, verb_of, name_of, bytes_in, Called, suffix_text, suffixes_stand}
+use Rattle.expressions.specs.Calls.{typed_at, suffixes_at, verb_of, name_of, bytes_in, Called, suffix_text, suffixes_stand, by_name, by_full_name, by_prefix, exactly}
 use Rattle.keys.proofs.FunctionLaws.{found-function}
 use Rattle.expressions.proofs.NameLaws.{same-turned, part_length, name-length, name_pieces, all-taken}
 
@@ -52,15 +53,11 @@ module _ (tree text : List ℕ) where
     filter_none e = record { is = rw (sym is, e) refl; function = none_found }
 
   -- a function alone
-  pub mangled_hit : (f : ℕ) (b : Bool) → FunctionAt tree f → b ≡ is_mangled (function_of tree text f) → b ≡ true
-      → FunctionIs tree text (Some f) (filter_option is_mangled (some (function_of tree text f)))
+  pub mangled_then : (f : ℕ) (b : Bool) → FunctionAt tree f → b ≡ is_mangled (function_of tree text f)
+      → FunctionIs tree text (then_some b f) (filter_option is_mangled (some (function_of tree text f)))
   unfolding function_found
-  mangled_hit f b a q t = filter_hit is_mangled (some (function_of tree text f)) (Some f) refl f b (a_function a) refl q t
-
-  pub mangled_left : (f : ℕ) (b : Bool) → b ≡ is_mangled (function_of tree text f) → b ≡ false
-      → FunctionIs tree text None (filter_option is_mangled (some (function_of tree text f)))
-  unfolding function_found
-  mangled_left f b q t = filter-left is_mangled (some (function_of tree text f)) (Some f) refl f b refl q t
+  mangled_then f true a q = filter_hit is_mangled (some (function_of tree text f)) (Some f) refl f true (a_function a) refl q refl
+  mangled_then f false a q = filter-left is_mangled (some (function_of tree text f)) (Some f) refl f false refl q refl
 
 -- ---- a call's names
 
@@ -154,28 +151,31 @@ module _ (tree text : List ℕ) (t : Text) (f : ℕ) (p : Part) (is : PartIs tex
 
 -- ---- the three one after the other
 
+or_else_assoc : (a b d : Option Function) → or_else (or_else a b) d ≡ or_else a (or_else b d)
+unfolding or_else
+or_else_assoc (some f) b d = refl
+or_else_assoc none b d = refl
+
+-- of two that are looked for, the second only where the first is missing
+pub first_found : (tree text : List ℕ) (r q : StdOption ℕ) (a b : Option Function) → FunctionIs tree text r a
+    → MatchOption r (FunctionIs tree text q b) (λ v. q ≡ Some v) → FunctionIs tree text q (or_else a b)
+unfolding function_found or_else
+first_found tree text (Some f) q a b m w = rw w (record { is = rw (sym m.is) refl; function = m.function })
+first_found tree text None q a b m w = record { is = w.is ∙ rw (sym m.is) refl; function = w.function }
+
 module _ (tree text s : List ℕ) (c : Call) (h : Called tree text s c) where
-  module _ (r : StdOption ℕ) (first : function_found tree text r
-      ≡ filter_option (λ f. takes_both (program tree text) (all_keys tree text) f (typed_at tree text s c.first)) (get_function (verb_of tree text s c) (all_keys tree text))) where
-    abbrev Exact : Option Function
-    Exact = find_exact_function (program tree text) (all_keys tree text) (verb_of tree text s c) (typed_at tree text s c.first)
+  whole : by_full_name tree text s c
+      ≡ mangled_function (program tree text) (all_keys tree text) (joined (program tree text) (all_keys tree text) (verb_of tree text s c) (suffixes (program tree text) (all_keys tree text) (typed_at tree text s c.first)))
+  unfolding name_of suffixes_at
+  whole = ap (λ (l : List Text). mangled_function (program tree text) (all_keys tree text) (joined (program tree text) (all_keys tree text) (verb_of tree text s c) l)) (all-taken tree text s c h)
 
-    pub exact-verb : (f : ℕ) → FunctionFound tree r → r ≡ Some f → FunctionIs tree text (Some f) Exact
-    unfolding find_exact_function function_found or_else
-    exact-verb f a e = record { is = rw (sym first, e) refl; function = a_function (found-function tree r f a e) }
+  in_turn : or_else (by_name tree text s c) (or_else (by_full_name tree text s c) (by_prefix tree text s c)) ≡ exactly tree text s c
+  unfolding find_exact_function suffixes_at
+  in_turn = ap (λ (z : Option Function). or_else (by_name tree text s c) (or_else z (by_prefix tree text s c))) whole
 
-    module _ (none_so : r ≡ None) (q : StdOption ℕ) (second : function_found tree text q ≡ mangled_function (program tree text) (all_keys tree text) (name_of tree text s c c.count)) where
-      whole : mangled_function (program tree text) (all_keys tree text) (name_of tree text s c c.count)
-          ≡ mangled_function (program tree text) (all_keys tree text) (joined (program tree text) (all_keys tree text) (verb_of tree text s c) (suffixes (program tree text) (all_keys tree text) (typed_at tree text s c.first)))
-      unfolding name_of suffixes_at
-      whole = ap (λ (l : List Text). mangled_function (program tree text) (all_keys tree text) (joined (program tree text) (all_keys tree text) (verb_of tree text s c) l)) (all-taken tree text s c h)
-
-      pub exact-name : (f : ℕ) → FunctionFound tree q → q ≡ Some f → FunctionIs tree text (Some f) Exact
-      unfolding find_exact_function function_found or_else
-      exact-name f a e = record { is = rw (sym first, none_so, sym (second ∙ whole), e) refl; function = a_function (found-function tree q f a e) }
-
-      pub exact_prefix : q ≡ None → (p : StdOption ℕ)
-          → function_found tree text p ≡ variadic_function (program tree text) (all_keys tree text) (verb_of tree text s c) (suffixes_at tree text s c.first)
-          → function_found tree text p ≡ Exact
-      unfolding find_exact_function function_found or_else suffixes_at
-      exact_prefix e p third = third ∙ rw (sym first, none_so, sym (second ∙ whole), e) refl
+  pub exactly_is : (q : StdOption ℕ) → FunctionIs tree text q (or_else (or_else (by_name tree text s c) (by_full_name tree text s c)) (by_prefix tree text s c))
+      → FunctionIs tree text q (exactly tree text s c)
+  exactly_is q m = record {
+    is = m.is ∙ or_else_assoc (by_name tree text s c) (by_full_name tree text s c) (by_prefix tree text s c) ∙ in_turn;
+    function = m.function;
+  }

@@ -1,6 +1,6 @@
 -- Types of literals, of names and of calls' values, as the code meets them.
 -- By the cases of nodes, the twelve first types, the open names one by one, and a function's word D. Assumes nothing.
-use Rattle.std.specs.Prelude.{Option as StdOption, Some, None, Ok, Err}
+use Rattle.std.specs.Prelude.{Option as StdOption, Some, None, Ok, Err, ok_or}
 use Rattle.expressions.specs.declared.answers.Callee as Code
 use Rattle.expressions.specs.Answers.{OrRefused}
 use mathlib.Core.Path.{◌≡◌, refl, sym, ap, ◌∙◌, subst}
@@ -126,29 +126,38 @@ unfolding IsFound name_type
 missing_name e (some x) h = absurd h
 missing_name e nothing h = refl
 
+-- what was found, from what the code goes on with
+found_ok : (r : StdOption Known) (x : ConvertError) (v : Known) → ok_or r x ≡ Ok v → r ≡ Some v
+found_ok (Some y) x v q = let z : y ≡ v = cc in ap Some z
+found_ok None x v q = absurd (let z : ◌≡◌ {A = ℕ} 0 1 = cc in omega arith)
+
+found_err : (r : StdOption Known) (x z : ConvertError) → ok_or r x ≡ Err z → (r ≡ None) × (x ≡ z)
+found_err (Some y) x z q = absurd (let z : ◌≡◌ {A = ℕ} 0 1 = cc in omega arith)
+found_err None x z q = (refl, cc)
+
 module _ (tree text s : List ℕ) (sc : Scope) (e : ℕ) (scoped : Scoped tree s sc) (k : IsKind tree 6 e)
     (r : StdOption Known) (m : FindMeets text s sc (text_of tree text e A) r) where
   type-name : type_in tree text (scope_at tree text s sc) e ≡ name_type e (find_in (text_of tree text e A) (variables_of text s sc))
   unfolding type_in get_type find_variable scope_at
   type-name = rw (expr-name tree text e k.kind)
 
-  pub name-known : (v : Known) → r ≡ Some v
+  pub name-known : (x : ConvertError) (v : Known) → ok_or r x ≡ Ok v
       → TypeIs tree (Ok v.var.1) (type_in tree text (scope_at tree text s sc) e)
   unfolding type_result
-  name-known v q =
+  name-known x v q =
       let hit : IsFound (Some v) (find_in (text_of tree text e A) (variables_of text s sc)) =
-      subst (λ (z : StdOption Known). IsFound z (find_in (text_of tree text e A) (variables_of text s sc))) q m in record {
+      subst (λ (z : StdOption Known). IsFound z (find_in (text_of tree text e A) (variables_of text s sc))) (found_ok r x v q) m in record {
         is = type-name ∙ found_name v e (find_in (text_of tree text e A) (variables_of text s sc)) hit;
         type = IsTyped.is (found-typed v tree text s sc.records (text_of tree text e A) sc.names
             (λ j h. subst (λ (z : ℕ). TypeAt tree (word_at s (8 * z + 16 * j + 12) / 2)) (sym scoped.records_are) (scoped.types j h)) hit);
       }
 
-  pub name_unknown : r ≡ None → (z : OrRefused ℕ) → z ≡ Err (record { kind = UnknownVariable; place = e })
-      → TypeIs tree z (type_in tree text (scope_at tree text s sc) e)
-  name_unknown q z w =
-      refused-at tree (type_in tree text (scope_at tree text s sc) e) UnknownVariable e z
+  pub name_unknown : (z : ConvertError) → ok_or r (record { kind = UnknownVariable; place = e }) ≡ Err z
+      → TypeIs tree (Err z) (type_in tree text (scope_at tree text s sc) e)
+  name_unknown z q = let missed = found_err r (record { kind = UnknownVariable; place = e }) z q in
+      refused-at tree (type_in tree text (scope_at tree text s sc) e) UnknownVariable e (Err z)
       (type-name ∙ missing_name e (find_in (text_of tree text e A) (variables_of text s sc))
-      (subst (λ (y : StdOption Known). IsFound y (find_in (text_of tree text e A) (variables_of text s sc))) q m)) w
+      (subst (λ (y : StdOption Known). IsFound y (find_in (text_of tree text e A) (variables_of text s sc))) missed.0 m)) (ap Err (sym missed.1))
 
 -- ---- what a call gives back
 

@@ -1,5 +1,5 @@
 // expressions.rs: what a call runs, once its arguments' types stand in scratch.
-ghost use Rattle.std.specs.Prelude.{◌≡◌, ◌⊎◌, ℕ, ◌*◌, ◌≤◌, List, length, Ok, Err};
+ghost use Rattle.std.specs.Prelude.{◌≡◌, ◌⊎◌, ℕ, ◌*◌, ◌≤◌, List, length, Ok};
 ghost use Rattle.records.specs.Layout.{scratch_each};
 ghost use Rattle.records.specs.Words as Words;
 ghost use Rattle.records.specs.Words.{record_bytes, records, word_of};
@@ -13,7 +13,7 @@ ghost use Rattle.expressions.specs.Slots.{ArgsTyped, callee_at};
 ghost use Rattle.expressions.specs.Calls.{Called, CallAt, literal_fits, cast_type_of, function_for, resolved_at};
 ghost use Rattle.expressions.specs.Answers.{callee_record, CandidatesAre, CastIs, CalleeIs};
 
-use crate::answers::{Callee, Candidates};
+use crate::answers::{Callee, Candidates, refuse};
 use crate::arguments::{Call, count_arguments, source_type, target_type};
 use crate::exact::find_exact_function;
 use crate::takes::takes_call;
@@ -84,12 +84,6 @@ fn cast_type(
     })
 }
 
-fn refuse_call(kind: ConvertErrorKind, place: u32) -> Result<Callee, ConvertError>
-    ensures { result ≡ Err (record { kind = kind; place = place }) }
-{
-    Err(ConvertError { kind, place })
-}
-
 // Where the call is no cast.
 fn resolve_function(
     tree: &[u8],
@@ -107,8 +101,8 @@ fn resolve_function(
     }
     match find_functions_by_literals(tree, text, scratch, call) {
         Candidates::One(f) => Ok(Callee::Function(f)),
-        Candidates::Nobody => refuse_call(ConvertErrorKind::UnknownFunction, r),
-        Candidates::Several => refuse_call(ConvertErrorKind::AmbiguousCall, r),
+        Candidates::Nobody => refuse(ConvertErrorKind::UnknownFunction, r as usize),
+        Candidates::Several => refuse(ConvertErrorKind::AmbiguousCall, r as usize),
     }
 }
 

@@ -112,10 +112,7 @@ fn mangled_only(tree: &[u8], text: &[u8], f: usize) -> Option<usize>
     requires function_at { FunctionAt tree.now f }
     ensures { FunctionIs tree.now text.now result (filter_option is_mangled (some (function_of tree.now text.now f))) }
 {
-    if is_mangled(tree, text, f) {
-        return Some(f);
-    }
-    None
+    is_mangled(tree, text, f).then_some(f)
 }
 
 // The verb's digest, which stands in scratch at the slot of its number.
@@ -301,11 +298,7 @@ pub(crate) fn find_exact_function(
     requires called { Called tree.now text.now scratch.now call }
     ensures { FunctionIs tree.now text.now result (exactly tree.now text.now scratch.now call) }
 {
-    if let Some(f) = by_name(tree, text, scratch, call) {
-        return Some(f);
-    }
-    if let Some(f) = by_whole_name(tree, text, scratch, call) {
-        return Some(f);
-    }
-    by_prefix(tree, text, scratch, call)
+    by_name(tree, text, scratch, call)
+        .or_else(|| by_whole_name(tree, text, scratch, call))
+        .or_else(|| by_prefix(tree, text, scratch, call))
 }

@@ -12,7 +12,7 @@ ghost use Rattle.expressions.specs.Answers.{TypeMeets, ArgsMeet, CallMeets, Comm
 use crate::answers::Callee;
 use crate::arguments::{Argument, END, argument_at, next_cell, slot};
 use crate::calls::{callee_at, callee_record, resolve_typed};
-use crate::operands::{binary_type, both_sides, common_of, leaf_type, unary_type, value_type};
+use crate::operands::{Sides, binary_type, common_of, leaf_type, unary_type, value_type};
 use crate::turns::{NOTHING, beside, is_typed, keep};
 use records::convert_error::ConvertError;
 use records::numbers::{KIND_BINARY, KIND_CALL, KIND_UNARY};
@@ -64,7 +64,12 @@ fn work_out(
         let right = reference(tree, e, WORD_B);
         let l = get_type(tree, text, scratch, scope, turn, left)?;
         let r = get_type(tree, text, scratch, scope, turn, right)?;
-        let sides = both_sides(left, l, right, r);
+        let sides = Sides {
+            left,
+            left_type: l,
+            right,
+            right_type: r,
+        };
         let common = common_of(tree, text, sides);
         let a = binary_type(tree, text, e, sides, common);
         return keep(tree, scratch, turn, e, a, common.unwrap_or(NOTHING));
@@ -177,5 +182,11 @@ fn find_common(
 {
     let l = get_type(tree, text, scratch, scope, turn, left)?;
     let r = get_type(tree, text, scratch, scope, turn, right)?;
-    Ok(common_of(tree, text, both_sides(left, l, right, r)))
+    let sides = Sides {
+        left,
+        left_type: l,
+        right,
+        right_type: r,
+    };
+    Ok(common_of(tree, text, sides))
 }

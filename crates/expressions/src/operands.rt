@@ -1,5 +1,5 @@
 // expressions.rs: the types of expressions from those of their operands, and of those that have none.
-ghost use Rattle.std.specs.Prelude.{◌≡◌, List, ℕ, ◌+◌, ◌*◌, ◌≤◌, ◌<◌, length, get_or, Err};
+ghost use Rattle.std.specs.Prelude.{◌≡◌, List, ℕ, ◌+◌, ◌*◌, ◌≤◌, ◌<◌, length, get_or};
 ghost use Rattle.records.specs.Words.{record_bytes, kind_of, records};
 ghost use Rattle.records.specs.Kinds.{kind_name, kind_size_of, kind_unary, kind_binary};
 ghost use Rattle.records.specs.Good.{Good};
@@ -15,7 +15,7 @@ ghost use Rattle.expressions.specs.Slots.{Scoped, type_in};
 ghost use Rattle.conversion.specs.ConvertError.{ok};
 ghost use Rattle.expressions.specs.Answers.{value_result, IsCallee, Operands, TypeIs, FoundIs, Accepts, unary_type_at, common_at, binary_error_at, binary_type_at};
 
-use crate::answers::Callee;
+use crate::answers::{Callee, refuse};
 use crate::names::find_name;
 use records::convert_error::{ConvertError, ConvertErrorKind};
 use records::numbers::{
@@ -27,16 +27,6 @@ use scope::Scope;
 use types::fits::{fits, range_error};
 use types::form::{form, is_number};
 use types::operators::{OperandClass, ResultClass, operator_of};
-
-pub(crate) fn refuse_type(kind: ConvertErrorKind, place: usize) -> Result<usize, ConvertError>
-    requires { place < 4294967296 }
-    ensures { result ≡ Err (record { kind = kind; place = place }) }
-{
-    Err(ConvertError {
-        kind,
-        place: place as u32,
-    })
-}
 
 // Whether an operator's class of operands has this type.
 fn accepts(tree: &[u8], class: OperandClass, ty: usize) -> bool
@@ -78,7 +68,7 @@ pub(crate) fn unary_type(
     if accepts_unary(tree, detail(tree, e), ty) {
         return Ok(ty);
     }
-    refuse_type(ConvertErrorKind::WrongOperands, e)
+    refuse(ConvertErrorKind::WrongOperands, e)
 }
 
 // Two operands, expressions with their types.
@@ -88,17 +78,6 @@ pub struct Sides {
     pub left_type: usize,
     pub right: usize,
     pub right_type: usize,
-}
-
-pub(crate) fn both_sides(left: usize, left_type: usize, right: usize, right_type: usize) -> Sides
-    ensures { result ≡ record { left = left; left_type = left_type; right = right; right_type = right_type } }
-{
-    Sides {
-        left,
-        left_type,
-        right,
-        right_type,
-    }
 }
 
 // The type that both take: a literal takes the type of the other side.
@@ -125,12 +104,12 @@ fn binary_error(tree: &[u8], text: &[u8], e: usize, s: Sides) -> Result<usize, C
     ensures { TypeIs tree.now result (binary_error_at tree.now text.now e s) }
 {
     if range_error(tree, s.right, s.right_type, s.left_type) {
-        return refuse_type(ConvertErrorKind::LiteralOutOfRange, s.right);
+        return refuse(ConvertErrorKind::LiteralOutOfRange, s.right);
     }
     if range_error(tree, s.left, s.left_type, s.right_type) {
-        return refuse_type(ConvertErrorKind::LiteralOutOfRange, s.left);
+        return refuse(ConvertErrorKind::LiteralOutOfRange, s.left);
     }
-    refuse_type(ConvertErrorKind::WrongOperands, e)
+    refuse(ConvertErrorKind::WrongOperands, e)
 }
 
 // The type of the Binary e, from the type that both sides take.
@@ -174,7 +153,7 @@ pub(crate) fn value_type(
         Callee::Function(f) => {
             let y = reference(tree, f, WORD_D);
             if y == NONE as usize {
-                return refuse_type(ConvertErrorKind::NoValue, e);
+                return refuse(ConvertErrorKind::NoValue, e);
             }
             Ok(y)
         }
@@ -212,9 +191,10 @@ fn name_type(
     requires kind { IsKind tree.now kind_name e }
     ensures { TypeIs tree.now result (type_in tree.now text.now (scope_at tree.now text.now scratch.now scope) e) }
 {
-    let Some(known) = find_name(tree, text, scratch, scope, e) else {
-        return refuse_type(ConvertErrorKind::UnknownVariable, e);
-    };
+    let known = find_name(tree, text, scratch, scope, e).ok_or(ConvertError {
+        kind: ConvertErrorKind::UnknownVariable,
+        place: e as u32,
+    })?;
     Ok(known.var.1 as usize)
 }
 

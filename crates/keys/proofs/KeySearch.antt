@@ -48,9 +48,9 @@ module _ (tree text : List ℕ) (good : Good tree text) (f : ℕ) (at : Function
   params-read w e = (function-params tree text good f at ∙ ap (params_at tree text) (sym e), rw e (params_are tree text good f at))
 
 module _ (F : Function) where
-  pub external_plain : (x : Bool) → x ≡ F.external → x ≡ true → false ≡ is_mangled F
+  pub external_plain : (x : Bool) → x ≡ F.external → x ≡ true → not x ≡ is_mangled F
   unfolding is_mangled
-  external_plain x e t = rw (sym e ∙ t)
+  external_plain x e t = rw (sym e ∙ t) (ap not t)
 
   pub mangled_by_name : (x m : Bool) (t : Text) → x ≡ F.external → x ≡ false → t ≡ F.name → m ≡ same_text t main_name → not m ≡ is_mangled F
   unfolding is_mangled

@@ -5,9 +5,9 @@ use mathlib.Core.Bool.{Bool, true, false, and-false}
 use mathlib.Core.List.{List, [], ◌∷◌}
 use Prim.Native.Nat.{ℕ, zero, suc, ◌+◌, ◌≤◌}
 use native.Mathlib.Omega.{arith}
-use lib.Dec.{ltb}
+use lib.Dec.{eqb, ltb}
 use lib.ListN.{length, get_or}
-use borrow.Author.Tests.{lt-ltb, le-ltb}
+use borrow.Author.Tests.{lt-ltb, le-ltb, ne_eqb}
 use Rattle.std.specs.Bool.{MatchBool}
 use Rattle.std.specs.Str.{IsAscii, IsNotAscii}
 use Rattle.records.specs.Words.{text_at}
@@ -17,8 +17,8 @@ use Rattle.records.proofs.TextLaws.{reach_whole, text-whole, other-lengths}
 
 -- ---- a part of the text, and bytes
 
-pub other-bytes : (t b : List ℕ) (o n : ℕ) → o + n ≤ length t → (n ≡ length b → ⊥) → false ≡ same_text (text_at t o n) b
-other-bytes t b o n k h = other-lengths (text_at t o n) b n (length b) (reach_whole t o n (omega arith)) refl h
+pub other-bytes : (t b : List ℕ) (o n : ℕ) → o + n ≤ length t → (n ≡ length b → ⊥) → eqb n (length b) ≡ same_text (text_at t o n) b
+other-bytes t b o n k h = ne_eqb n (length b) h ∙ other-lengths (text_at t o n) b n (length b) (reach_whole t o n (omega arith)) refl h
 
 pub whole-bytes : (t b : List ℕ) (o n : ℕ) (r : Bool) → n ≡ length b → r ≡ same_text (text_at t o n) (text_at b 0 n) → r ≡ same_text (text_at t o n) b
 whole-bytes t b o n r e h = h ∙ ap (same_text (text_at t o n)) (text-whole b n e)

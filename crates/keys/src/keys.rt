@@ -19,9 +19,7 @@ use records::layout::{
     NAME_HEADS, ORIGINAL_BYTES, ORIGINALS, TEXT_DIGEST_BYTES, TEXT_DIGESTS,
 };
 use records::texts::roll_digest;
-use records::words::{
-    RECORD_BYTES, WORD_A, WORD_B, WORD_C, detail, index, load, put_word, reference,
-};
+use records::words::{RECORD_BYTES, WORD_A, WORD_B, WORD_C, detail, load, put_word, reference};
 use texts::{kept_digest, original};
 
 pub fn name_of(tree: &[u8], text: &[u8], f: usize) -> Part
@@ -71,10 +69,7 @@ pub fn is_mangled(tree: &[u8], text: &[u8], f: usize) -> bool
     requires function_at { FunctionAt tree.now f }
     ensures { result ≡ is_mangled (function_of tree.now text.now f) }
 {
-    if is_external(tree, text, f) {
-        return false;
-    }
-    !is_main(text, name_of(tree, text, f))
+    !is_external(tree, text, f) && !is_main(text, name_of(tree, text, f))
 }
 
 pub fn key_of(tree: &[u8], text: &[u8], f: usize) -> Part
@@ -83,9 +78,10 @@ pub fn key_of(tree: &[u8], text: &[u8], f: usize) -> Part
     ensures { PartIs text.now result (function_key (function_of tree.now text.now f)) }
 {
     if is_mangled(tree, text, f) {
-        return mangled_name_of(tree, text, f);
+        mangled_name_of(tree, text, f)
+    } else {
+        name_of(tree, text, f)
     }
-    name_of(tree, text, f)
 }
 
 // The j-th of the listed functions.
@@ -104,9 +100,10 @@ fn key_record(tree: &[u8], text: &[u8], f: usize) -> usize
     ensures { result ≡ key_record tree.now text.now f }
 {
     if is_mangled(tree, text, f) {
-        return reference(tree, f, WORD_B);
+        reference(tree, f, WORD_B)
+    } else {
+        reference(tree, f, WORD_A)
     }
-    reference(tree, f, WORD_A)
 }
 
 // The number of a function's key.
@@ -146,7 +143,7 @@ pub fn find_key(tree: &[u8], text: &[u8], scratch: &[u8], number: usize) -> Opti
     ensures { FindsKey tree.now text.now scratch.now number result }
 {
     let n = tree.len() / RECORD_BYTES;
-    index(load(scratch, KEY_SLOTS * n + KEY_SLOT_BYTES * number)).checked_sub(1)
+    (load(scratch, KEY_SLOTS * n + KEY_SLOT_BYTES * number) as usize).checked_sub(1)
 }
 
 // The function that is entered with the key of function f.
@@ -240,7 +237,7 @@ pub fn key_head(scratch: &[u8], n: usize, d: u32) -> usize
     ensures { result ≡ word_at scratch.now (key_head_at n (bucket_of n (digest_end d))) }
 {
     let b = bucket(roll_digest(d), n);
-    index(load(scratch, KEY_HEADS * n + KEY_HEAD_BYTES * b))
+    load(scratch, KEY_HEADS * n + KEY_HEAD_BYTES * b) as usize
 }
 
 // One more than the function before f in its bucket, or 0.
@@ -248,7 +245,7 @@ pub fn key_before(scratch: &[u8], n: usize, f: usize) -> usize
     requires { original_at n f + 4 ≤ length scratch.now }
     ensures { result ≡ word_at scratch.now (original_at n f) }
 {
-    index(load(scratch, ORIGINALS * n + ORIGINAL_BYTES * f))
+    load(scratch, ORIGINALS * n + ORIGINAL_BYTES * f) as usize
 }
 
 // One more than the last mangled function whose name has this number, or 0.
@@ -256,7 +253,7 @@ pub fn name_head(scratch: &[u8], n: usize, number: usize) -> usize
     requires { name_head_at n number + 4 ≤ length scratch.now }
     ensures { result ≡ word_at scratch.now (name_head_at n number) }
 {
-    index(load(scratch, NAME_HEADS * n + NAME_HEAD_BYTES * number))
+    load(scratch, NAME_HEADS * n + NAME_HEAD_BYTES * number) as usize
 }
 
 // One more than the mangled function before f with its name, or 0.
@@ -264,5 +261,5 @@ pub fn name_before(scratch: &[u8], n: usize, f: usize) -> usize
     requires { key_slot_at n f + 4 ≤ length scratch.now }
     ensures { result ≡ word_at scratch.now (key_slot_at n f) }
 {
-    index(load(scratch, KEY_SLOTS * n + KEY_SLOT_BYTES * f))
+    load(scratch, KEY_SLOTS * n + KEY_SLOT_BYTES * f) as usize
 }

@@ -32,12 +32,7 @@ fn same_bytes(text: &[u8], p: Part, bytes: &[u8]) -> bool
     requires { p.offset + p.len ≤ length text.now }
     ensures { result ≡ same_text (text_at text.now p.offset p.len) bytes.now }
 {
-    let at = p.offset;
-    let n = p.len;
-    if n != bytes.len() {
-        return false;
-    }
-    same_run(text, at, bytes, 0, n)
+    p.len == bytes.len() && same_run(text, p.offset, bytes, 0, p.len)
 }
 
 pub fn is_main(text: &[u8], p: Part) -> bool

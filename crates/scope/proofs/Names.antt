@@ -10,7 +10,7 @@ use native.Mathlib.Numerals.{add-one}
 use native.Mathlib.Omega.{arith}
 use lib.Dec.{eqb, ltb}
 use lib.ListN.{length}
-use borrow.Author.Tests.{eq-eqb, ne_eqb, lt-ltb, le-ltb, ltb-true}
+use borrow.Author.Tests.{eq-eqb, ne_eqb, lt-ltb, ltb-true}
 use Rattle.laws.specs.Fix.{pick}
 use Rattle.laws.specs.Below.{last}
 use Rattle.laws.specs.Splice.{splice}
@@ -21,6 +21,7 @@ use Rattle.conversion.specs.Ir.{same_text}
 use Rattle.conversion.specs.Scope.{Variable, find_in}
 use Rattle.conversion.specs.Written.{bytes_of, word, bool_number}
 use Rattle.std.specs.Prelude.{Option as StdOption, Some, None, is_some}
+use Rattle.std.specs.Bool.{then_some}
 use Rattle.ir.specs.declared.structs.VarId.{VarId}
 use Rattle.ir.specs.Search.{found_of}
 use Rattle.ir.proofs.SearchLaws.{found_some, found_none}
@@ -108,17 +109,14 @@ module _ (s : List ℕ) (n count o offset len : ℕ) where
 
   -- as the code tests it
   module _ (j : ℕ) (ej : j ≡ said) where
-    pub said-far : count ≤ j → None ≡ found_of (open_at s n count o offset len)
-    unfolding open_at pick
-    said-far h = rw (← ej, le-ltb j count h)
+    as_found : (b : Bool) → then_some b j ≡ found_of (pick b (some j) none)
+    unfolding pick
+    as_found true = refl
+    as_found false = refl
 
-    pub said-other : j < count → words_are s n offset len j ≡ false → None ≡ found_of (open_at s n count o offset len)
-    unfolding open_at pick
-    said-other h e = rw (← ej, lt-ltb j count h, e)
-
-    pub said_this : j < count → words_are s n offset len j ≡ true → Some j ≡ found_of (open_at s n count o offset len)
-    unfolding open_at pick
-    said_this h e = rw (← ej, lt-ltb j count h, e)
+    pub said_tested : (b : Bool) → b ≡ (ltb j count && words_are s n offset len j) → then_some b j ≡ found_of (open_at s n count o offset len)
+    unfolding open_at
+    said_tested b e = rw (← ej, ← e) (as_found b)
 
   open_holds : (j : ℕ) → open_at s n count o offset len ≡ some j → (j < count) × (words_are s n offset len j ≡ true)
   unfolding open_at pick

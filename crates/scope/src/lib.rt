@@ -54,13 +54,7 @@ fn open_at(scratch: &[u8], records: usize, count: usize, name: TextId) -> Option
         scratch,
         NAME_SLOTS * records + NAME_SLOT_BYTES * name.number,
     ));
-    if count <= j {
-        return None;
-    }
-    if entry_is(scratch, records, j, name) {
-        return Some(j);
-    }
-    None
+    (j < count && entry_is(scratch, records, j, name)).then_some(j)
 }
 
 fn variable_at(scratch: &[u8], records: usize, j: usize) -> Known
@@ -139,10 +133,6 @@ impl Scope {
     pub fn in_loop(self) -> Option<u32>
         ensures { loop_of result ≡ loop_number self.inner }
     {
-        let r = self.inner;
-        if r == NONE {
-            return None;
-        }
-        Some(r)
+        (self.inner != NONE).then_some(self.inner)
     }
 }

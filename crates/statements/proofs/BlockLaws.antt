@@ -60,13 +60,13 @@ module _ (tree : List ℕ) (r : ℕ) {node : ℕ} (e : node ≡ kind_of tree r) 
     unfolding pick
     plain_declare h p = rw (yes 15 h) p
 
-    pub plain_init : (node ≡ 15 → ⊥) → node ≡ 16 → StatesAs init_steps c r tree text l s a l' s' → StatesAs plain_steps c r tree text l s a l' s'
+    pub plain_init : node ≡ 16 → StatesAs init_steps c r tree text l s a l' s' → StatesAs plain_steps c r tree text l s a l' s'
     unfolding pick
-    plain_init n h p = rw (no 15 n, yes 16 h) p
+    plain_init h p = rw (no 15 (λ e. omega arith), yes 16 h) p
 
-    pub plain_return : (node ≡ 15 → ⊥) → (node ≡ 16 → ⊥) → node ≡ 17 → StatesAs return_steps c r tree text l s a l' s' → StatesAs plain_steps c r tree text l s a l' s'
+    pub plain_return : node ≡ 17 → StatesAs return_steps c r tree text l s a l' s' → StatesAs plain_steps c r tree text l s a l' s'
     unfolding pick
-    plain_return n n' h p = rw (no 15 n, no 16 n', yes 17 h) p
+    plain_return h p = rw (no 15 (λ e. omega arith), no 16 (λ e. omega arith), yes 17 h) p
 
     pub plain_call : (node ≡ 15 → ⊥) → (node ≡ 16 → ⊥) → (node ≡ 17 → ⊥) → StatesAs call_statement_steps c r tree text l s a l' s' → StatesAs plain_steps c r tree text l s a l' s'
     unfolding pick
@@ -85,10 +85,6 @@ module _ (tree : List ℕ) (r : ℕ) {node : ℕ} (e : node ≡ kind_of tree r) 
 -- behind the comment, in a turn of its own
 abbrev pub begun : Converter → Counters → Converter
 begun c k = record { scope = c.scope; counters = k; operands = c.operands; turn = k.instructions }
-
--- the kind that is left when all others are excluded
-pub last-kind : {node : ℕ} → 18 < node → node < 22 → (node ≡ 19 → ⊥) → (node ≡ 20 → ⊥) → node ≡ 21
-last-kind a b c d = omega arith
 
 module _ (tree text : List ℕ) (good : Good tree text) (s : List ℕ) (c : Converter) (r : ℕ) (h : r < records tree) where
   plain_by : (i : ℕ) → i ≤ 3 → kind_of tree r ≡ 15 + i → statement_steps tree text s c r ≡ emit (Comment r) >> plain_steps tree text s c r

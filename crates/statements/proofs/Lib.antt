@@ -1,4 +1,3 @@
-pub mod Absent
 pub mod TurnLaws
 pub mod PlainTurns
 pub mod PartLaws
@@ -16,6 +15,7 @@ pub mod EmitLaws
 pub mod ConvertLaws
 pub mod AroundLaws
 pub mod ExprLaws
+pub mod Asked
 pub mod ArgsLaws
 pub mod TypedLaws
 pub mod HeadLaws

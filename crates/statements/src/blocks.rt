@@ -20,7 +20,8 @@ use ir::lent::COUNT_INSTRUCTIONS;
 use ir::structs::emit_comment;
 use records::convert_error::ConvertError;
 use records::numbers::{
-    KIND_BREAK, KIND_CALL_STATEMENT, KIND_DECLARE, KIND_IF, KIND_INIT, KIND_RETURN, KIND_WHILE,
+    KIND_BREAK, KIND_CALL_STATEMENT, KIND_DECLARE, KIND_FOR, KIND_IF, KIND_INIT, KIND_RETURN,
+    KIND_WHILE,
 };
 use records::words::{WORD_A, WORD_B, WORD_C, WORD_D, kind, reference};
 use scope::Scope;
@@ -41,17 +42,12 @@ fn convert_plain(
     ensures states_as { StatesAs plain_steps (at c k.old) r tree.now text.now arena.old scratch.old (stated k.new result) arena.new scratch.new }
     ensures types { StatesTyped own_types (at c k.old) r tree.now text.now scratch.old (stated k.new result) scratch.new }
 {
-    let node = kind(tree, r);
-    if node == KIND_DECLARE {
-        return convert_declare(tree, text, arena, scratch, k, c, r);
+    match kind(tree, r) {
+        KIND_DECLARE => convert_declare(tree, text, arena, scratch, k, c, r),
+        KIND_INIT => convert_init(tree, text, arena, scratch, k, c, r),
+        KIND_RETURN => convert_return(tree, text, arena, scratch, k, c, r),
+        _ => convert_call(tree, text, arena, scratch, k, c, r),
     }
-    if node == KIND_INIT {
-        return convert_init(tree, text, arena, scratch, k, c, r);
-    }
-    if node == KIND_RETURN {
-        return convert_return(tree, text, arena, scratch, k, c, r);
-    }
-    convert_call(tree, text, arena, scratch, k, c, r)
 }
 
 // The Break or Continue r, behind its comment.
@@ -91,28 +87,27 @@ fn convert_statement(
     ensures statement_as { StatementAs statement_steps (at c k.old) r tree.now text.now arena.old scratch.old (stated k.new result) arena.new scratch.new }
     ensures visits { StatementVisited r tree.now text.now scratch.old (stated k.new result) scratch.new }
 {
-    let node = kind(tree, r);
     emit_comment(arena, k, r as u32);
     let at = Converter {
         turn: k[COUNT_INSTRUCTIONS] as u32,
         ..c
     };
-    if node <= KIND_CALL_STATEMENT {
-        return convert_plain(tree, text, arena, scratch, k, at, r);
+    match kind(tree, r) {
+        KIND_DECLARE..=KIND_CALL_STATEMENT => convert_plain(tree, text, arena, scratch, k, at, r),
+        KIND_IF => {
+            convert_if(tree, text, arena, scratch, k, at, r)?;
+            Ok(c.scope)
+        }
+        KIND_WHILE => {
+            convert_while_loop(tree, text, arena, scratch, k, at, r)?;
+            Ok(c.scope)
+        }
+        KIND_FOR => {
+            convert_for_loop(tree, text, arena, scratch, k, at, r)?;
+            Ok(c.scope)
+        }
+        _ => convert_jump(tree, text, arena, scratch, k, at, r),
     }
-    if node >= KIND_BREAK {
-        return convert_jump(tree, text, arena, scratch, k, at, r);
-    }
-    if node == KIND_IF {
-        convert_if(tree, text, arena, scratch, k, at, r)?;
-        return Ok(c.scope);
-    }
-    if node == KIND_WHILE {
-        convert_while_loop(tree, text, arena, scratch, k, at, r)?;
-        return Ok(c.scope);
-    }
-    convert_for_loop(tree, text, arena, scratch, k, at, r)?;
-    Ok(c.scope)
 }
 
 // The block whose first cell this is, in a scope of its own.

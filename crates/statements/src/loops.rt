@@ -146,9 +146,8 @@ fn for_declared(
     ensures types { VariableTyped (at c k.old) tree.now text.now scratch.old (found_variable k.new result) scratch.new }
 {
     let x = new_var(arena, k, word(tree, v, WORD_C));
-    let Some(next) = declare_name(tree, text, scratch, c.scope, v, x, false) else {
-        return Err(error_at(ConvertErrorKind::AlreadyDeclared, r));
-    };
+    let taken = error_at(ConvertErrorKind::AlreadyDeclared, r);
+    let next = declare_name(tree, text, scratch, c.scope, v, x, false).ok_or(taken)?;
     Ok(ForVariable {
         var: x,
         scope: next,
@@ -168,9 +167,8 @@ fn for_known(
     requires kind { IsKind tree.now kind_for r × (v ≡ word_of tree.now r Words.A) × (word_of tree.now v Words.C ≡ Words.none) }
     ensures { VariableStays for_variable_steps c r tree.now text.now scratch.now result }
 {
-    let Some(known) = find_name(tree, text, scratch, c.scope, v) else {
-        return Err(error_at(ConvertErrorKind::UnknownVariable, r));
-    };
+    let unknown = error_at(ConvertErrorKind::UnknownVariable, r);
+    let known = find_name(tree, text, scratch, c.scope, v).ok_or(unknown)?;
     if known.constant {
         return Err(error_at(ConvertErrorKind::AssignToConstant, r));
     }

@@ -160,9 +160,8 @@ fn name_operand(
     requires { Ready tree.now text.now scratch.now c.scope × IsKind tree.now kind_name e }
     ensures { LeafStays c e tree.now text.now scratch.now result }
 {
-    let Some(known) = find_name(tree, text, scratch, c.scope, e) else {
-        return Err(error_at(ConvertErrorKind::UnknownVariable, e));
-    };
+    let unknown = error_at(ConvertErrorKind::UnknownVariable, e);
+    let known = find_name(tree, text, scratch, c.scope, e).ok_or(unknown)?;
     Ok(Operand::Var(known.var))
 }
 
@@ -192,24 +191,13 @@ pub(crate) fn operand(
     requires expr { IsExpr tree.now e × (kind_of tree.now e ≤ kind_size_of) }
     ensures { LeafConverts (expr_amount 0) (at c k.old) e tree.now text.now arena.old scratch.now (converted k.new result) arena.new }
 {
-    let leaf = kind(tree, e);
-    if leaf == KIND_INT {
-        return Ok(int_operand(tree, e));
+    match kind(tree, e) {
+        KIND_INT => Ok(int_operand(tree, e)),
+        KIND_FLOAT => Ok(float_operand(tree, text, arena, k, e)),
+        KIND_STR => Ok(string_operand(tree, text, arena, scratch, k, c, e)),
+        KIND_BOOL => Ok(Operand::Bool(detail(tree, e) == 1)),
+        KIND_NAME => name_operand(tree, text, scratch, c, e),
+        KIND_NULL => Ok(Operand::Null),
+        _ => size_operand(tree, text, e),
     }
-    if leaf == KIND_FLOAT {
-        return Ok(float_operand(tree, text, arena, k, e));
-    }
-    if leaf == KIND_STR {
-        return Ok(string_operand(tree, text, arena, scratch, k, c, e));
-    }
-    if leaf == KIND_BOOL {
-        return Ok(Operand::Bool(detail(tree, e) == 1));
-    }
-    if leaf == KIND_NAME {
-        return name_operand(tree, text, scratch, c, e);
-    }
-    if leaf == KIND_NULL {
-        return Ok(Operand::Null);
-    }
-    size_operand(tree, text, e)
 }

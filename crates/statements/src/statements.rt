@@ -130,9 +130,8 @@ pub(crate) fn convert_declare(
     ensures types { StatesTyped no_types (at c k.old) r tree.now text.now scratch.old (stated k.new result) scratch.new }
 {
     let v = new_var(arena, k, word(tree, r, WORD_C));
-    let Some(next) = declare_name(tree, text, scratch, c.scope, r, v, false) else {
-        return Err(error_at(ConvertErrorKind::AlreadyDeclared, r));
-    };
+    let taken = error_at(ConvertErrorKind::AlreadyDeclared, r);
+    let next = declare_name(tree, text, scratch, c.scope, r, v, false).ok_or(taken)?;
     zero_value(tree, arena, k, r, v)?;
     Ok(next)
 }
@@ -224,9 +223,8 @@ fn declare_init(
 {
     let constant = detail(tree, r) == 1;
     let v = new_var(arena, k, init_type(y) as u32);
-    let Some(next) = declare_name(tree, text, scratch, c.scope, r, v, constant) else {
-        return Err(error_at(ConvertErrorKind::AlreadyDeclared, r));
-    };
+    let taken = error_at(ConvertErrorKind::AlreadyDeclared, r);
+    let next = declare_name(tree, text, scratch, c.scope, r, v, constant).ok_or(taken)?;
     emit_copy(arena, k, v, src);
     Ok(next)
 }
@@ -415,9 +413,7 @@ fn jump_in_loop(
     requires r_bound { r < 4294967296 }
     ensures { StatesAs (givens loop_jump_steps kind outside) (at c k.old) r tree.now text.now arena.old scratch.now (stated k.new result) arena.new scratch.now }
 {
-    let Some(l) = c.scope.in_loop() else {
-        return Err(error_at(outside, r));
-    };
+    let l = c.scope.in_loop().ok_or(error_at(outside, r))?;
     jump(arena, k, kind, l as usize);
     Ok(c.scope)
 }

@@ -14,7 +14,7 @@ use Rattle.records.specs.Words.{detail_of, word_of}
 use Rattle.int128.specs.declared.Int128.{Int128}
 use Rattle.std.specs.Prelude as Std
 use Rattle.std.specs.Prelude.{Some, None}
-use Rattle.int128.specs.Value.{value_of, checked_of}
+use Rattle.int128.specs.Value.{checked_of}
 use Rattle.int128.specs.Ops.{int_fits}
 use Rattle.syntax.specs.Decode.{bit, expr_of, node, type_at}
 use Rattle.conversion.specs.Types.{on_int, on_float, on_address, some_and, is_some, int_value, float_value, float_fits, is_null_literal, fits_into, is_literal, fits, range_error}
@@ -27,15 +27,6 @@ use Rattle.types.proofs.TypeCases.{type-is, type_int, type_float, type_address, 
 -- ---- what a constant folds to
 
 module _ (o : Option ℤ) (x : Std.Option Int128) (ex : checked_of x ≡ o) where
-  pub int_fits-value : (v : Int128) → x ≡ Some v → (s u a b r : Bool) → s ≡ a → u ≡ b → r ≡ int_fits (value_of v) s u
-      → r ≡ some_and o (λ z. int_fits z a b)
-  unfolding some_and
-  int_fits-value v e s u a b r es eu er = rw (← ex, e, ← es, ← eu) er
-
-  pub int_fits_nothing : x ≡ None → (p : ℤ → Bool) → false ≡ some_and o p
-  unfolding some_and
-  int_fits_nothing e p = rw (← ex, e)
-
   pub int-is_some : Std.is_some x ≡ is_some o
   unfolding is_some some_and
   int-is_some = told x ∙ ap is_some ex

@@ -112,6 +112,20 @@ small_is : (x : Float) → small x ≡ le (abs x) (of_bits binary64 0x47EFFFFFE0
 unfolding small
 small_is x = rw limit_is (between 16777215 (pos 104) (omega arith) x)
 
+and_no : (a : Bool) → (a && false) ≡ false
+and_no true = refl
+and_no false = refl
+
+-- the two tests of `small`, the lower limit first
+module _ (x : Float) (r : Bool) (e : le (neg (of_bits binary64 0x47EFFFFFE0000000)) x ≡ r) where
+  pub small_above : r ≡ true → le x (of_bits binary64 0x47EFFFFFE0000000) ≡ small x
+  unfolding small
+  small_above h = rw (e, h) (sym (and_yes (le x (of_bits binary64 0x47EFFFFFE0000000))))
+
+  pub small_below : r ≡ false → r ≡ small x
+  unfolding small
+  small_below h = rw (e, h) (sym (and_no (le x (of_bits binary64 0x47EFFFFFE0000000))))
+
 -- ---- float_fits
 
 pub fits-small : (x : Float) (s : Bool) → finite x ≡ true → s ≡ true → small x ≡ float_fits x s

@@ -196,13 +196,9 @@ module _ (op : ℕ) where
         flip (some v) = refl
     unless_neg o (suc (suc (suc k))) h l = absurd (omega arith)
 
-    pub neg_not : op ≡ 1 → float_of None ≡ neg_float (get_or unary_ops op Neg) (float_of x)
+    pub neg_none : 1 ≤ op → op ≤ 2 → float_of None ≡ neg_float (get_or unary_ops op Neg) (float_of x)
     unfolding float_of
-    neg_not e = unless_neg Neg op (omega arith) (omega arith)
-
-    pub neg_not_2 : op ≡ 2 → float_of None ≡ neg_float (get_or unary_ops op Neg) (float_of x)
-    unfolding float_of
-    neg_not_2 e = unless_neg Neg op (omega arith) (omega arith)
+    neg_none = unless_neg Neg op
 
     module _ (n₁ : op ≡ 1 → ⊥) (n₂ : op ≡ 2 → ⊥) where
       pub neg_value : (v : Float) → x ≡ Some (F.Value v) → float_of (Some (F.Value (Ieee.neg v))) ≡ neg_float (get_or unary_ops op Neg) (float_of x)

@@ -2,9 +2,9 @@
 use Rattle.std.specs.Prelude.{ℕ}
 use Rattle.types.specs.declared.casts.CastClass.{CastClass}
 
-abbrev pub class_number : CastClass → ℕ
-class_number CastClass.OtherScalar = 0
-class_number CastClass.LongInt = 1
-class_number CastClass.Address = 2
-class_number CastClass.Null = 3
-class_number CastClass.Rest = 4
+abbrev pub cast_class_number : CastClass → ℕ
+cast_class_number CastClass.OtherScalar = 0
+cast_class_number CastClass.LongInt = 1
+cast_class_number CastClass.Address = 2
+cast_class_number CastClass.Null = 3
+cast_class_number CastClass.Rest = 4

@@ -3,7 +3,7 @@ ghost use Rattle.std.specs.Prelude.{◌≡◌, List, ℕ, ◌+◌, ◌*◌, ◌�
 ghost use Rattle.records.specs.Words.{record_bytes};
 ghost use Rattle.syntax.specs.Decode.{type_at};
 ghost use Rattle.conversion.specs.Types.{cast_class, can_cast};
-ghost use Rattle.types.specs.Casts.{class_number};
+ghost use Rattle.types.specs.Casts.{cast_class_number};
 
 use crate::form::{form, is_short};
 use records::numbers::{
@@ -31,7 +31,7 @@ const CASTS: [[bool; 5]; 5] = [
 
 fn cast_class(tree: &[u8], ty: usize) -> CastClass
     requires { ty * record_bytes + record_bytes ≤ length tree.now }
-    ensures { (text : List ℕ) → class_number result ≡ cast_class (type_at tree.now text ty) }
+    ensures { (text : List ℕ) → cast_class_number result ≡ cast_class (type_at tree.now text ty) }
 {
     match form(tree, ty) {
         FORM_INT if !is_short(tree, ty) => CastClass::LongInt,
@@ -44,7 +44,7 @@ fn cast_class(tree: &[u8], ty: usize) -> CastClass
 
 // Which row of the table, and which entry.
 fn index_of(class: CastClass) -> usize
-    ensures { result ≡ class_number class }
+    ensures { result ≡ cast_class_number class }
 {
     class as usize
 }

@@ -20,10 +20,11 @@ fn int_constant_fits(tree: &[u8], e: usize, expected: usize) -> bool
     requires record_bytes_in_bounds_2 { expected * record_bytes + record_bytes ≤ length tree.now }
     ensures { (text : List ℕ) → result ≡ some_and (int_value (expr_of (node tree.now text e))) (in_range_of tree.now expected) }
 {
-    match int_value(tree, e) {
-        Some(v) => int_fits(v, is_short(tree, expected), is_unsigned(tree, expected)),
-        None => false,
-    }
+    int_value(tree, e).is_some_and(|v| int_fits(
+        v,
+        is_short(tree, expected),
+        is_unsigned(tree, expected),
+    ))
 }
 
 fn float_constant_fits(tree: &[u8], e: usize, expected: usize) -> bool
@@ -33,8 +34,7 @@ fn float_constant_fits(tree: &[u8], e: usize, expected: usize) -> bool
 {
     match float_value(tree, e) {
         Some(FloatValue::Value(v)) => float_fits(v, is_short(tree, expected)),
-        Some(FloatValue::Nan) => false,
-        None => false,
+        _ => false,
     }
 }
 
@@ -44,10 +44,7 @@ fn to_nothing(tree: &[u8], from: usize, to: usize) -> bool
     requires record_bytes_in_bounds_2 { to * record_bytes + record_bytes ≤ length tree.now }
     ensures { result ≡ (eqb (word_of tree.now from Words.A) null_type || eqb (word_of tree.now to Words.A) null_type) }
 {
-    if reference(tree, from, WORD_A) == NULL_TYPE {
-        return true;
-    }
-    reference(tree, to, WORD_A) == NULL_TYPE
+    reference(tree, from, WORD_A) == NULL_TYPE || reference(tree, to, WORD_A) == NULL_TYPE
 }
 
 // Where the two types are not equal.
@@ -57,29 +54,13 @@ fn fits_into(tree: &[u8], e: usize, ty: usize, expected: usize) -> bool
     requires fact_2 { IsType tree.now expected }
     ensures { (text : List ℕ) → result ≡ into_at tree.now text e ty expected }
 {
-    let from = form(tree, ty);
-    let to = form(tree, expected);
-    if from == FORM_INT {
-        if to == FORM_INT {
-            return int_constant_fits(tree, e, expected);
-        }
-        return false;
+    match (form(tree, ty), form(tree, expected)) {
+        (FORM_INT, FORM_INT) => int_constant_fits(tree, e, expected),
+        (FORM_FLOAT, FORM_FLOAT) => float_constant_fits(tree, e, expected),
+        (FORM_ADDRESS, FORM_ADDRESS) => to_nothing(tree, ty, expected),
+        (FORM_NULL, FORM_ADDRESS) => kind(tree, e) == KIND_NULL,
+        _ => false,
     }
-    if from == FORM_FLOAT {
-        if to == FORM_FLOAT {
-            return float_constant_fits(tree, e, expected);
-        }
-        return false;
-    }
-    if to == FORM_ADDRESS {
-        if from == FORM_ADDRESS {
-            return to_nothing(tree, ty, expected);
-        }
-        if from == FORM_NULL {
-            return kind(tree, e) == KIND_NULL;
-        }
-    }
-    false
 }
 
 // Whether e, of type ty, goes where `expected` goes.
@@ -89,10 +70,7 @@ pub fn fits(tree: &[u8], e: usize, ty: usize, expected: usize) -> bool
     requires fact_2 { IsType tree.now expected }
     ensures { (text : List ℕ) → result ≡ fits_at tree.now text e ty expected }
 {
-    if ty == expected {
-        return true;
-    }
-    fits_into(tree, e, ty, expected)
+    ty == expected || fits_into(tree, e, ty, expected)
 }
 
 fn is_int_constant(tree: &[u8], e: usize) -> bool
@@ -117,20 +95,11 @@ fn is_literal(tree: &[u8], e: usize, ty: usize, expected: usize) -> bool
     requires record_bytes_in_bounds_3 { expected * record_bytes + record_bytes ≤ length tree.now }
     ensures { (text : List ℕ) → result ≡ literal_at tree.now text e ty expected }
 {
-    let from = form(tree, ty);
-    let to = form(tree, expected);
-    if from == FORM_INT {
-        if to == FORM_INT {
-            return is_int_constant(tree, e);
-        }
-        return false;
+    match (form(tree, ty), form(tree, expected)) {
+        (FORM_INT, FORM_INT) => is_int_constant(tree, e),
+        (FORM_FLOAT, FORM_FLOAT) => is_float_constant(tree, e),
+        _ => false,
     }
-    if from == FORM_FLOAT {
-        if to == FORM_FLOAT {
-            return is_float_constant(tree, e);
-        }
-    }
-    false
 }
 
 // Whether e is a constant of the expected form whose value does not fit: LiteralOutOfRange at e.
@@ -140,8 +109,5 @@ pub fn range_error(tree: &[u8], e: usize, ty: usize, expected: usize) -> bool
     requires fact_2 { IsType tree.now expected }
     ensures { (text : List ℕ) → result ≡ range_error_at tree.now text e ty expected }
 {
-    if is_literal(tree, e, ty, expected) {
-        return !fits(tree, e, ty, expected);
-    }
-    false
+    is_literal(tree, e, ty, expected) && !fits(tree, e, ty, expected)
 }

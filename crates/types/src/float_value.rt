@@ -46,15 +46,12 @@ fn nan_apart(x: f64) -> Option<FloatValue>
 fn fold_neg(op: u8, value: Option<FloatValue>) -> Option<FloatValue>
     ensures { float_of result ≡ neg_float (get_or unary_ops op Neg) (float_of value) }
 {
-    if op == BIT_NOT {
-        return None;
-    }
-    if op == NOT {
-        return None;
-    }
-    match value? {
-        FloatValue::Value(x) => Some(FloatValue::Value(-x)),
-        FloatValue::Nan => Some(FloatValue::Nan),
+    match op {
+        BIT_NOT | NOT => None,
+        _ => match value? {
+            FloatValue::Value(x) => Some(FloatValue::Value(-x)),
+            FloatValue::Nan => Some(FloatValue::Nan),
+        },
     }
 }
 
@@ -62,19 +59,13 @@ fn fold_neg(op: u8, value: Option<FloatValue>) -> Option<FloatValue>
 fn fold_two(op: u8, left: f64, right: f64) -> Option<FloatValue>
     ensures { float_of result ≡ float_two (get_or binary_ops op Or) left right }
 {
-    if op == ADD {
-        return nan_apart(left + right);
+    match op {
+        ADD => nan_apart(left + right),
+        SUB => nan_apart(left - right),
+        MUL => nan_apart(left * right),
+        DIV => nan_apart(left / right),
+        _ => None,
     }
-    if op == SUB {
-        return nan_apart(left - right);
-    }
-    if op == MUL {
-        return nan_apart(left * right);
-    }
-    if op == DIV {
-        return nan_apart(left / right);
-    }
-    None
 }
 
 // A NaN on either side gives a NaN.
@@ -82,12 +73,10 @@ fn fold_nan(op: u8) -> Option<FloatValue>
     ensures left { (y : Float) → float_of result ≡ float_two (get_or binary_ops op Or) nan y }
     ensures right { (x : Float) → float_of result ≡ float_two (get_or binary_ops op Or) x nan }
 {
-    if ADD <= op {
-        if op <= DIV {
-            return Some(FloatValue::Nan);
-        }
+    match op {
+        ADD..=DIV => Some(FloatValue::Nan),
+        _ => None,
     }
-    None
 }
 
 fn fold_right(op: u8, left: f64, right: Option<FloatValue>) -> Option<FloatValue>
@@ -152,17 +141,11 @@ fn is_finite(x: f64) -> bool
 fn is_small(x: f64) -> bool
     ensures { result ≡ small x }
 {
-    if x <= F32_MAX { -F32_MAX <= x } else { false }
+    -F32_MAX <= x && x <= F32_MAX
 }
 
 pub fn float_fits(value: f64, short: bool) -> bool
     ensures { result ≡ float_fits value short }
 {
-    if is_finite(value) {
-        if short {
-            return is_small(value);
-        }
-        return true;
-    }
-    false
+    is_finite(value) && (!short || is_small(value))
 }

@@ -19,13 +19,11 @@ fn fold_unary(op: u8, value: Option<Int128>) -> Option<Int128>
     ensures { checked_of result ≡ fold_unary (get_or unary_ops op Neg) (checked_of value) }
 {
     let v = value?;
-    if op == BIT_NOT {
-        return Some(!v);
+    match op {
+        BIT_NOT => Some(!v),
+        NOT => None,
+        _ => v.checked_neg(),
     }
-    if op == NOT {
-        return None;
-    }
-    v.checked_neg()
 }
 
 // BitOr, BitXor, BitAnd.
@@ -33,13 +31,11 @@ fn fold_bits(op: u8, left: Int128, right: Int128) -> Int128
     requires { (binary_number BitOr ≤ op) × (op ≤ binary_number BitAnd) }
     ensures { some (value_of result) ≡ fold_two (get_or binary_ops op Or) (value_of left) (value_of right) }
 {
-    if op == BIT_OR {
-        return left | right;
+    match op {
+        BIT_OR => left | right,
+        BIT_XOR => left ^ right,
+        _ => left & right,
     }
-    if op == BIT_XOR {
-        return left ^ right;
-    }
-    left & right
 }
 
 // The shifted value, where taken back by the same count it gives the old one: a shift that loses bits folds to nothing.
@@ -59,43 +55,26 @@ fn fold_checked(op: u8, left: Int128, right: Int128) -> Option<Int128>
     requires { binary_number Shl ≤ op }
     ensures { checked_of result ≡ fold_two (get_or binary_ops op Or) (value_of left) (value_of right) }
 {
-    if op == SHL {
-        return fold_shl(left, right);
+    match op {
+        SHL => fold_shl(left, right),
+        SHR => left.checked_shr_by(right),
+        ADD => left.checked_add(right),
+        SUB => left.checked_sub(right),
+        MUL => left.checked_mul(right),
+        DIV => left.checked_div(right),
+        REM => left.checked_rem(right),
+        _ => None,
     }
-    if op == SHR {
-        return left.checked_shr_by(right);
-    }
-    if op == ADD {
-        return left.checked_add(right);
-    }
-    if op == SUB {
-        return left.checked_sub(right);
-    }
-    if op == MUL {
-        return left.checked_mul(right);
-    }
-    if op == DIV {
-        return left.checked_div(right);
-    }
-    if op == REM {
-        return left.checked_rem(right);
-    }
-    None
 }
 
 fn fold_two(op: u8, left: Int128, right: Int128) -> Option<Int128>
     ensures { checked_of result ≡ fold_two (get_or binary_ops op Or) (value_of left) (value_of right) }
 {
-    if SHL <= op {
-        return fold_checked(op, left, right);
+    match op {
+        BIT_OR..=BIT_AND => Some(fold_bits(op, left, right)),
+        SHL.. => fold_checked(op, left, right),
+        _ => None,
     }
-    if BIT_AND < op {
-        return None;
-    }
-    if BIT_OR <= op {
-        return Some(fold_bits(op, left, right));
-    }
-    None
 }
 
 fn fold_binary(op: u8, left: Option<Int128>, right: Option<Int128>) -> Option<Int128>

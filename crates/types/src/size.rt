@@ -7,7 +7,9 @@ ghost use Rattle.conversion.specs.Types.{times_size};
 ghost use Rattle.types.specs.Sizes.{exact_size, bytes_for, exact_bytes, size_at};
 
 use crate::form::{form, is_short, two_words};
-use records::numbers::{FORM_ADDRESS, FORM_ARRAY, FORM_FLOAT, FORM_INT};
+use records::numbers::{
+    FORM_ADDRESS, FORM_ARRAY, FORM_BOOL, FORM_BYTE, FORM_CHAR, FORM_FLOAT, FORM_INT,
+};
 use records::words::{WORD_A, WORD_B, reference};
 
 // A number below 2^63, or that it is 2^63 or more, or nothing: Custom, Null and arrays of these have no size.
@@ -50,23 +52,12 @@ fn plain_size(tree: &[u8], ty: usize) -> Bytes
     requires fact { detail_of tree.now ty % 16 ≡ form_array → ⊥ }
     ensures { (text : List ℕ) → result ≡ bytes_for (exact_size tree.now text ty) }
 {
-    let f = form(tree, ty);
-    if f < FORM_INT {
-        return Bytes::Nothing;
+    match form(tree, ty) {
+        FORM_INT | FORM_FLOAT if is_short(tree, ty) => Bytes::Exactly(4),
+        FORM_INT | FORM_FLOAT | FORM_ADDRESS => Bytes::Exactly(8),
+        FORM_BOOL | FORM_CHAR | FORM_BYTE => Bytes::Exactly(1),
+        _ => Bytes::Nothing,
     }
-    if f <= FORM_FLOAT {
-        if is_short(tree, ty) {
-            return Bytes::Exactly(4);
-        }
-        return Bytes::Exactly(8);
-    }
-    if f < FORM_ADDRESS {
-        return Bytes::Exactly(1);
-    }
-    if f == FORM_ADDRESS {
-        return Bytes::Exactly(8);
-    }
-    Bytes::Nothing
 }
 
 // Over and Nothing are document 01's 27.

@@ -1,17 +1,14 @@
 -- The entry that the slot says, where it is open and has the two words.
 -- By what `load` ensures of the slot and `entry_is` of the entry. Assumes nothing.
-use mathlib.Core.Path.{sym, ◌∙◌}
-use native.Mathlib.Omega.{arith}
-use Rattle.scope.proofs.Names.{said-far, said-other, said_this}
+use mathlib.Core.Path.{refl, ◌∙◌}
+use borrow.Author.Tests.{lt-ltb, le-ltb}
+use Rattle.scope.proofs.Names.{said_tested}
+use Rattle.scope.proofs.open_at.Goals.{then-j-count, else-j-count}
 use Rattle.scope.proofs.open_at.Goals as goal
 
-pub returns-then-count-j : goal.returns-then-count-j
-returns-then-count-j c = said-far _ _ _ _ _ _ _ (c.index-j.ensures ∙ c.load.ensures) c.if-count-j.true
-
-pub returns-then-entry_is : goal.returns-then-entry_is
-returns-then-entry_is c = said_this _ _ _ _ _ _ _ (c.index-j.ensures ∙ c.load.ensures) (omega arith)
-    (sym c.entry_is.ensures ∙ c.if-entry_is.true)
-
 pub returns : goal.returns
-returns c = said-other _ _ _ _ _ _ _ (c.index-j.ensures ∙ c.load.ensures) (omega arith)
-    (sym c.entry_is.ensures ∙ c.if-entry_is.false)
+returns c = c.then_some.ensures ∙ said_tested _ _ _ _ _ _ _ (c.index-j.ensures ∙ c.load.ensures) _
+    (elim c.if-j-count.branch [
+      | then-j-count w ↦ rw (lt-ltb _ _ w.if-j-count.true) (w.then_some-is ∙ w.entry_is.ensures)
+      | else-j-count w ↦ rw (w.then_some-is, le-ltb _ _ w.if-j-count.false) refl
+    ])

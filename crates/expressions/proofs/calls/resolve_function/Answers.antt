@@ -10,7 +10,7 @@ pub returns-in-One : goal.returns-in-One
 returns-in-One c = choice_one _ _ _ _ _ _ c.find_exact_function.ensures.is c.in_default.is _ c.find_functions_by_literals.ensures.are c.find_functions_by_literals.ensures.function _ c.in-One.is
 
 pub returns-in-Nobody : goal.returns-in-Nobody
-returns-in-Nobody c = choice_nobody _ _ _ _ _ _ c.find_exact_function.ensures.is c.in_default.is _ c.find_functions_by_literals.ensures.are c.in-Nobody.is _ c.refuse_call.ensures
+returns-in-Nobody c = choice_nobody _ _ _ _ _ _ c.find_exact_function.ensures.is c.in_default.is _ c.find_functions_by_literals.ensures.are c.in-Nobody.is _ c.refuse.ensures
 
 pub returns-in-Several : goal.returns-in-Several
-returns-in-Several c = choice_several _ _ _ _ _ _ c.find_exact_function.ensures.is c.in_default.is _ c.find_functions_by_literals.ensures.are c.in-Several.is _ c.refuse_call-in-Several.ensures
+returns-in-Several c = choice_several _ _ _ _ _ _ c.find_exact_function.ensures.is c.in_default.is _ c.find_functions_by_literals.ensures.are c.in-Several.is _ c.refuse-in-Several.ensures

@@ -1,5 +1,6 @@
 -- `get_type`, `work_out`, `find_callee` and `get_argument_types` meet their contracts. Their measures are 4e + 3, 4e + 2, 4r + 1 and 4r: a call goes to a lower record, or
 -- down this order. Each need is a law of TypingLaws or of ArgumentTurns; the loop's invariant is `Left`, its measure the cell's number. Assumes nothing.
+use mathlib.Core.Path.{refl}
 use native.Mathlib.Omega.{arith}
 use Rattle.std.proofs.lemmas.Result.{err_from_is_err_and}
 use Rattle.expressions.proofs.SlotLaws.{keyed-frame}
@@ -71,7 +72,7 @@ work_out-get_type-requires-then-k-eq-KIND_BINARY-2 t c = let h = right-expr _ _ 
 pub work_out-common_of-common-requires : goal.work_out-common_of-common-requires
 work_out-common_of-common-requires t c = record {
   good = c.requires.typing.ready.keyed.good;
-  operands = operands-are _ _ _ _ _ _ c.both_sides-sides.ensures
+  operands = operands-are _ _ _ _ _ _ refl
       (left-expr _ _ c.requires.typing.ready.keyed.good _ _ c.requires.expr.0 c.kind-k.ensures c.if-k-eq-KIND_BINARY.true _ c.reference-left.ensures).1
       (is-typed _ _ _ c.get_type-then-k-eq-KIND_BINARY.ensures.typed c.in_ok-l.was)
       (right-expr _ _ c.requires.typing.ready.keyed.good _ _ c.requires.expr.0 c.kind-k.ensures c.if-k-eq-KIND_BINARY.true _ c.reference-right.ensures).1
@@ -81,7 +82,7 @@ work_out-common_of-common-requires t c = record {
 pub work_out-binary_type-a-requires : goal.work_out-binary_type-a-requires
 work_out-binary_type-a-requires t c = record {
   good = c.requires.typing.ready.keyed.good;
-  operands = operands-are _ _ _ _ _ _ c.both_sides-sides.ensures
+  operands = operands-are _ _ _ _ _ _ refl
       (left-expr _ _ c.requires.typing.ready.keyed.good _ _ c.requires.expr.0 c.kind-k.ensures c.if-k-eq-KIND_BINARY.true _ c.reference-left.ensures).1
       (is-typed _ _ _ c.get_type-then-k-eq-KIND_BINARY.ensures.typed c.in_ok-l.was)
       (right-expr _ _ c.requires.typing.ready.keyed.good _ _ c.requires.expr.0 c.kind-k.ensures c.if-k-eq-KIND_BINARY.true _ c.reference-right.ensures).1
@@ -91,7 +92,7 @@ work_out-binary_type-a-requires t c = record {
 }
 
 pub work_out-keep-requires-then-k-eq-KIND_BINARY : goal.work_out-keep-requires-then-k-eq-KIND_BINARY
-work_out-keep-requires-then-k-eq-KIND_BINARY t c = keep_ready _ _ c.requires.typing.ready.keyed.good _ c.requires.expr.0 _ _ _ c.requires.typing c.requires.expr.1 _ _ _ (right_next_lem _ _ c.requires.typing.ready.keyed.good _ _ c.requires.expr.0 c.kind-k.ensures _ _ _ c.if-k-eq-KIND_BINARY.true _ c.reference-left.ensures _ _ c.get_type-then-k-eq-KIND_BINARY.ensures c.requires.typing _ c.in_ok-l.was _ c.reference-right.ensures _ _ c.get_type-then-k-eq-KIND_BINARY-2.ensures _ c.in_ok-r.was _ c.both_sides-sides.ensures _ c.binary_type-a.ensures _ c.common_of-common.ensures _ c.unwrap_or.ensures)
+work_out-keep-requires-then-k-eq-KIND_BINARY t c = keep_ready _ _ c.requires.typing.ready.keyed.good _ c.requires.expr.0 _ _ _ c.requires.typing c.requires.expr.1 _ _ _ (right_next_lem _ _ c.requires.typing.ready.keyed.good _ _ c.requires.expr.0 c.kind-k.ensures _ _ _ c.if-k-eq-KIND_BINARY.true _ c.reference-left.ensures _ _ c.get_type-then-k-eq-KIND_BINARY.ensures c.requires.typing _ c.in_ok-l.was _ c.reference-right.ensures _ _ c.get_type-then-k-eq-KIND_BINARY-2.ensures _ c.in_ok-r.was _ refl _ c.binary_type-a.ensures _ c.common_of-common.ensures _ c.unwrap_or.ensures)
 
 pub work_out-returns-in_err-l : goal.work_out-returns-in_err-l
 work_out-returns-in_err-l t c = let p = err_from_is_err_and c.from_residual-in_err-l.result c.from_residual-in_err-l.ensures.1 in
@@ -102,7 +103,7 @@ work_out-returns-in_err-r t c = let p = err_from_is_err_and c.from_residual-in_e
     rw (p.1, p.2) (right-stop _ _ c.requires.typing.ready.keyed.good _ _ c.requires.expr.0 c.kind-k.ensures _ _ _ c.if-k-eq-KIND_BINARY.true _ c.reference-left.ensures _ _ c.get_type-then-k-eq-KIND_BINARY.ensures c.requires.typing _ c.in_ok-l.was _ c.reference-right.ensures _ _ c.get_type-then-k-eq-KIND_BINARY-2.ensures _ c.in_err-r.was)
 
 pub work_out-returns-then-k-eq-KIND_BINARY : goal.work_out-returns-then-k-eq-KIND_BINARY
-work_out-returns-then-k-eq-KIND_BINARY t c = keep_meets _ _ c.requires.typing.ready.keyed.good _ c.requires.expr.0 _ _ _ c.requires.typing c.requires.expr.1 _ _ _ (right_next_lem _ _ c.requires.typing.ready.keyed.good _ _ c.requires.expr.0 c.kind-k.ensures _ _ _ c.if-k-eq-KIND_BINARY.true _ c.reference-left.ensures _ _ c.get_type-then-k-eq-KIND_BINARY.ensures c.requires.typing _ c.in_ok-l.was _ c.reference-right.ensures _ _ c.get_type-then-k-eq-KIND_BINARY-2.ensures _ c.in_ok-r.was _ c.both_sides-sides.ensures _ c.binary_type-a.ensures _ c.common_of-common.ensures _ c.unwrap_or.ensures) c.ranges.turn.fits _ _ c.keep-then-k-eq-KIND_BINARY.ensures
+work_out-returns-then-k-eq-KIND_BINARY t c = keep_meets _ _ c.requires.typing.ready.keyed.good _ c.requires.expr.0 _ _ _ c.requires.typing c.requires.expr.1 _ _ _ (right_next_lem _ _ c.requires.typing.ready.keyed.good _ _ c.requires.expr.0 c.kind-k.ensures _ _ _ c.if-k-eq-KIND_BINARY.true _ c.reference-left.ensures _ _ c.get_type-then-k-eq-KIND_BINARY.ensures c.requires.typing _ c.in_ok-l.was _ c.reference-right.ensures _ _ c.get_type-then-k-eq-KIND_BINARY-2.ensures _ c.in_ok-r.was _ refl _ c.binary_type-a.ensures _ c.common_of-common.ensures _ c.unwrap_or.ensures) c.ranges.turn.fits _ _ c.keep-then-k-eq-KIND_BINARY.ensures
 
 pub work_out-keep-requires-then-k-eq-KIND_CALL : goal.work_out-keep-requires-then-k-eq-KIND_CALL
 work_out-keep-requires-then-k-eq-KIND_CALL t c = keep_ready _ _ c.requires.typing.ready.keyed.good _ c.requires.expr.0 _ _ _ c.requires.typing c.requires.expr.1 _ _ _ (call_value_lem _ _ c.requires.typing.ready.keyed.good _ _ c.requires.expr.0 c.kind-k.ensures _ _ _ c.if-k-eq-KIND_CALL.true _ _ c.find_callee-callee.ensures _ c.value_type-a.ensures _ c.callee_record.ensures)

@@ -7,4 +7,4 @@ pub returns-then-accepts_unary : goal.returns-then-accepts_unary
 returns-then-accepts_unary c = unary-taken _ _ _ _ _ c.detail.ensures _ (c.accepts_unary.ensures _) c.if-accepts_unary.true c.requires.type_at
 
 pub returns : goal.returns
-returns c = unary-refused _ _ _ _ _ c.detail.ensures _ (c.accepts_unary.ensures _) c.if-accepts_unary.false _ c.refuse_type.ensures
+returns c = unary-refused _ _ _ _ _ c.detail.ensures _ (c.accepts_unary.ensures _) c.if-accepts_unary.false _ c.refuse.ensures

@@ -7,7 +7,7 @@ use Rattle.expressions.proofs.LeafLaws.{value-refused, value-cast, value_none, v
 use Rattle.expressions.proofs.operands.value_type.Goals as goal
 
 pub returns-then-y : goal.returns-then-y
-returns-then-y c = value_none _ _ c.requires.good _ _ c.requires.callee _ (c.in_ok-y.was ∙ ap Ok c.in-Function.is) _ c.reference-y.ensures c.if-y.true _ c.refuse_type.ensures
+returns-then-y c = value_none _ _ c.requires.good _ _ c.requires.callee _ (c.in_ok-y.was ∙ ap Ok c.in-Function.is) _ c.reference-y.ensures c.if-y.true _ c.refuse.ensures
 
 pub returns-in_err-y : goal.returns-in_err-y
 returns-in_err-y c = let p = err_from_is_err_and c.from_residual.result c.from_residual.ensures.1 in

@@ -3,8 +3,8 @@
 use Rattle.keys.proofs.PartLaws.{other-bytes, whole-bytes}
 use Rattle.keys.proofs.parts.same_bytes.Goals as goal
 
-pub returns-then-n-bytes : goal.returns-then-n-bytes
-returns-then-n-bytes c = search other-bytes
+pub returns-then-p-bytes : goal.returns-then-p-bytes
+returns-then-p-bytes c = search whole-bytes
 
-pub returns : goal.returns
-returns c = search whole-bytes
+pub returns-else-p-bytes : goal.returns-else-p-bytes
+returns-else-p-bytes c = search other-bytes

@@ -14,7 +14,7 @@ use Rattle.statements.specs.Answers.{stated_with}
 use native.Mathlib.Omega.{arith}
 use Rattle.records.proofs.GoodLaws.{if_detail}
 use Rattle.statements.proofs.StatedLaws.{finished_converting}
-use Rattle.statements.proofs.BlockLaws.{comment_converting, comment_afforded, last-kind, commented_plain, commented_jump, commented_if, commented_while, commented_for}
+use Rattle.statements.proofs.BlockLaws.{comment_converting, comment_afforded, commented_plain, commented_jump, commented_if, commented_while, commented_for}
 use Rattle.statements.proofs.BlockParts.{while_list, while_stop, while_converting, while_afforded, while_body-stop, while_room, while_next, for_list, for_stop, for_converting, for_afforded, for_body-stop, for_room, for_next, then_list, other-list, if-stop, then_afforded, then_stop, if-room, if-next, middle_room, other_converting, other_afforded, other-stop, other-room, if_else_next}
 use Rattle.statements.proofs.HeadLaws.{refused-finished}
 use Rattle.statements.proofs.BlockVisits.{comment_fresh, comment_small, comment_in_turn, plain_visited, jump_visited, stated-visited, head_visited, while_visited, if-visited, middle_turns, else_visited, for_head-visited, for_visited}
@@ -107,51 +107,51 @@ convert_statement-overflow_cast-at t c = record { fits = comment_small c.require
 
 pub convert_statement-convert_plain-requires : goal.convert_statement-convert_plain-requires
 unfolding counted
-convert_statement-convert_plain-requires t c = record { converting = (comment_converting c.requires.converting.0 c.requires.converting.1 c.requires.statement (omega arith) c.emit_comment.ensures, comment_afforded c.requires.converting.0 c.requires.converting.1 c.requires.statement (omega arith) c.emit_comment.ensures); statement = (c.requires.statement, omega (arith, c.kind-node.ensures, c.if-node-le-KIND_CALL_STATEMENT.true)); in_turn = comment_in_turn c.requires.converting.0 c.requires.converting.1 c.requires.statement c.requires.turns c.emit_comment.ensures }
+convert_statement-convert_plain-requires t c = record { converting = (comment_converting c.requires.converting.0 c.requires.converting.1 c.requires.statement (omega arith) c.emit_comment.ensures, comment_afforded c.requires.converting.0 c.requires.converting.1 c.requires.statement (omega arith) c.emit_comment.ensures); statement = (c.requires.statement, omega arith); in_turn = comment_in_turn c.requires.converting.0 c.requires.converting.1 c.requires.statement c.requires.turns c.emit_comment.ensures }
 
-pub convert_statement-returns-then-node-le-KIND_CALL_STATEMENT : goal.convert_statement-returns-then-node-le-KIND_CALL_STATEMENT
+pub convert_statement-returns-in-15-to-18 : goal.convert_statement-returns-in-15-to-18
 unfolding counted
-convert_statement-returns-then-node-le-KIND_CALL_STATEMENT t c = record { statement_as = commented_plain c.requires.converting.0 c.requires.converting.1 c.requires.statement (omega arith) c.emit_comment.ensures c.kind-node.ensures c.if-node-le-KIND_CALL_STATEMENT.true c.convert_plain.ensures.states_as; visits = plain_visited c.requires.converting.0 c.requires.converting.1 c.requires.statement c.requires.turns c.emit_comment.ensures c.convert_plain.ensures.states_as c.kind-node.ensures c.if-node-le-KIND_CALL_STATEMENT.true c.convert_plain.ensures.types }
+convert_statement-returns-in-15-to-18 t c = record { statement_as = commented_plain c.requires.converting.0 c.requires.converting.1 c.requires.statement (omega arith) c.emit_comment.ensures c.kind.ensures (omega arith) c.convert_plain.ensures.states_as; visits = plain_visited c.requires.converting.0 c.requires.converting.1 c.requires.statement c.requires.turns c.emit_comment.ensures c.convert_plain.ensures.states_as c.kind.ensures (omega arith) c.convert_plain.ensures.types }
 
-pub convert_statement-returns-then-node-ge-KIND_BREAK : goal.convert_statement-returns-then-node-ge-KIND_BREAK
+pub convert_statement-returns-in_default : goal.convert_statement-returns-in_default
 unfolding counted
-convert_statement-returns-then-node-ge-KIND_BREAK t c = record { statement_as = commented_jump c.requires.converting.0 c.requires.converting.1 c.requires.statement (omega arith) c.emit_comment.ensures c.kind-node.ensures c.if-node-ge-KIND_BREAK.true c.convert_jump.ensures; visits = jump_visited c.requires.converting.0 c.requires.converting.1 c.requires.statement c.requires.turns c.emit_comment.ensures c.convert_jump.ensures c.kind-node.ensures c.if-node-ge-KIND_BREAK.true refl }
+convert_statement-returns-in_default t c = record { statement_as = commented_jump c.requires.converting.0 c.requires.converting.1 c.requires.statement (omega arith) c.emit_comment.ensures c.kind.ensures (omega arith) c.convert_jump.ensures; visits = jump_visited c.requires.converting.0 c.requires.converting.1 c.requires.statement c.requires.turns c.emit_comment.ensures c.convert_jump.ensures c.kind.ensures (omega arith) refl }
 
 pub convert_statement-convert_if-requires : goal.convert_statement-convert_if-requires
 unfolding counted
-convert_statement-convert_if-requires t c = (omega (arith, c.decreases), ((comment_converting c.requires.converting.0 c.requires.converting.1 c.requires.statement (omega arith) c.emit_comment.ensures, comment_afforded c.requires.converting.0 c.requires.converting.1 c.requires.statement (omega arith) c.emit_comment.ensures), (record { below = c.requires.statement.below; kind = sym c.kind-node.ensures ∙ c.if-node-eq-KIND_IF.true }, comment_fresh c.requires.converting.0 c.requires.converting.1 c.requires.statement c.requires.turns c.emit_comment.ensures)))
+convert_statement-convert_if-requires t c = (omega (arith, c.decreases), ((comment_converting c.requires.converting.0 c.requires.converting.1 c.requires.statement (omega arith) c.emit_comment.ensures, comment_afforded c.requires.converting.0 c.requires.converting.1 c.requires.statement (omega arith) c.emit_comment.ensures), (record { below = c.requires.statement.below; kind = sym c.kind.ensures ∙ c.in-19.is }, comment_fresh c.requires.converting.0 c.requires.converting.1 c.requires.statement c.requires.turns c.emit_comment.ensures)))
 
-pub convert_statement-returns-then-node-eq-KIND_IF : goal.convert_statement-returns-then-node-eq-KIND_IF
+pub convert_statement-returns-in_ok-convert_if-in-19 : goal.convert_statement-returns-in_ok-convert_if-in-19
 unfolding counted
-convert_statement-returns-then-node-eq-KIND_IF t c = record { statement_as = commented_if c.requires.converting.0 c.requires.converting.1 c.requires.statement (omega arith) c.emit_comment.ensures c.kind-node.ensures (done-stated c.convert_if.new.k c.args.c.scope c.in_ok-convert_if.was) c.if-node-eq-KIND_IF.true c.convert_if.ensures.finishes_as; visits = stated-visited _ _ _ _ (done-stated c.convert_if.new.k c.args.c.scope c.in_ok-convert_if.was) c.convert_if.ensures.visits }
+convert_statement-returns-in_ok-convert_if-in-19 t c = record { statement_as = commented_if c.requires.converting.0 c.requires.converting.1 c.requires.statement (omega arith) c.emit_comment.ensures c.kind.ensures (done-stated c.convert_if.new.k c.args.c.scope c.in_ok-convert_if-in-19.was) c.in-19.is c.convert_if.ensures.finishes_as; visits = stated-visited _ _ _ _ (done-stated c.convert_if.new.k c.args.c.scope c.in_ok-convert_if-in-19.was) c.convert_if.ensures.visits }
 
-pub convert_statement-returns-in_err-convert_if : goal.convert_statement-returns-in_err-convert_if
+pub convert_statement-returns-in_err-convert_if-in-19 : goal.convert_statement-returns-in_err-convert_if-in-19
 unfolding counted
-convert_statement-returns-in_err-convert_if t c = let p = err_from_is_err_and c.from_residual.result c.from_residual.ensures.1 in rw (p.1, p.2) (record { statement_as = commented_if c.requires.converting.0 c.requires.converting.1 c.requires.statement (omega arith) c.emit_comment.ensures c.kind-node.ensures (stop-stated c.convert_if.new.k c.args.c.scope c.in_err-convert_if.was) c.if-node-eq-KIND_IF.true c.convert_if.ensures.finishes_as; visits = stated-visited _ _ _ _ (stop-stated c.convert_if.new.k c.args.c.scope c.in_err-convert_if.was) c.convert_if.ensures.visits })
+convert_statement-returns-in_err-convert_if-in-19 t c = let p = err_from_is_err_and c.from_residual.result c.from_residual.ensures.1 in rw (p.1, p.2) (record { statement_as = commented_if c.requires.converting.0 c.requires.converting.1 c.requires.statement (omega arith) c.emit_comment.ensures c.kind.ensures (stop-stated c.convert_if.new.k c.args.c.scope c.in_err-convert_if-in-19.was) c.in-19.is c.convert_if.ensures.finishes_as; visits = stated-visited _ _ _ _ (stop-stated c.convert_if.new.k c.args.c.scope c.in_err-convert_if-in-19.was) c.convert_if.ensures.visits })
 
 pub convert_statement-convert_while_loop-requires : goal.convert_statement-convert_while_loop-requires
 unfolding counted
-convert_statement-convert_while_loop-requires t c = (omega (arith, c.decreases), ((comment_converting c.requires.converting.0 c.requires.converting.1 c.requires.statement (omega arith) c.emit_comment.ensures, comment_afforded c.requires.converting.0 c.requires.converting.1 c.requires.statement (omega arith) c.emit_comment.ensures), (record { below = c.requires.statement.below; kind = sym c.kind-node.ensures ∙ c.if-node-eq-KIND_WHILE.true }, comment_fresh c.requires.converting.0 c.requires.converting.1 c.requires.statement c.requires.turns c.emit_comment.ensures)))
+convert_statement-convert_while_loop-requires t c = (omega (arith, c.decreases), ((comment_converting c.requires.converting.0 c.requires.converting.1 c.requires.statement (omega arith) c.emit_comment.ensures, comment_afforded c.requires.converting.0 c.requires.converting.1 c.requires.statement (omega arith) c.emit_comment.ensures), (record { below = c.requires.statement.below; kind = sym c.kind.ensures ∙ c.in-20.is }, comment_fresh c.requires.converting.0 c.requires.converting.1 c.requires.statement c.requires.turns c.emit_comment.ensures)))
 
-pub convert_statement-returns-then-node-eq-KIND_WHILE : goal.convert_statement-returns-then-node-eq-KIND_WHILE
+pub convert_statement-returns-in_ok-convert_while_loop-in-20 : goal.convert_statement-returns-in_ok-convert_while_loop-in-20
 unfolding counted
-convert_statement-returns-then-node-eq-KIND_WHILE t c = record { statement_as = commented_while c.requires.converting.0 c.requires.converting.1 c.requires.statement (omega arith) c.emit_comment.ensures c.kind-node.ensures (done-stated c.convert_while_loop.new.k c.args.c.scope c.in_ok-convert_while_loop.was) c.if-node-eq-KIND_WHILE.true c.convert_while_loop.ensures.finishes_as; visits = stated-visited _ _ _ _ (done-stated c.convert_while_loop.new.k c.args.c.scope c.in_ok-convert_while_loop.was) c.convert_while_loop.ensures.visits }
+convert_statement-returns-in_ok-convert_while_loop-in-20 t c = record { statement_as = commented_while c.requires.converting.0 c.requires.converting.1 c.requires.statement (omega arith) c.emit_comment.ensures c.kind.ensures (done-stated c.convert_while_loop.new.k c.args.c.scope c.in_ok-convert_while_loop-in-20.was) c.in-20.is c.convert_while_loop.ensures.finishes_as; visits = stated-visited _ _ _ _ (done-stated c.convert_while_loop.new.k c.args.c.scope c.in_ok-convert_while_loop-in-20.was) c.convert_while_loop.ensures.visits }
 
-pub convert_statement-returns-in_err-convert_while_loop : goal.convert_statement-returns-in_err-convert_while_loop
+pub convert_statement-returns-in_err-convert_while_loop-in-20 : goal.convert_statement-returns-in_err-convert_while_loop-in-20
 unfolding counted
-convert_statement-returns-in_err-convert_while_loop t c = let p = err_from_is_err_and c.from_residual-in_err-convert_while_loop.result c.from_residual-in_err-convert_while_loop.ensures.1 in rw (p.1, p.2) (record { statement_as = commented_while c.requires.converting.0 c.requires.converting.1 c.requires.statement (omega arith) c.emit_comment.ensures c.kind-node.ensures (stop-stated c.convert_while_loop.new.k c.args.c.scope c.in_err-convert_while_loop.was) c.if-node-eq-KIND_WHILE.true c.convert_while_loop.ensures.finishes_as; visits = stated-visited _ _ _ _ (stop-stated c.convert_while_loop.new.k c.args.c.scope c.in_err-convert_while_loop.was) c.convert_while_loop.ensures.visits })
+convert_statement-returns-in_err-convert_while_loop-in-20 t c = let p = err_from_is_err_and c.from_residual-in_err-convert_while_loop-in-20.result c.from_residual-in_err-convert_while_loop-in-20.ensures.1 in rw (p.1, p.2) (record { statement_as = commented_while c.requires.converting.0 c.requires.converting.1 c.requires.statement (omega arith) c.emit_comment.ensures c.kind.ensures (stop-stated c.convert_while_loop.new.k c.args.c.scope c.in_err-convert_while_loop-in-20.was) c.in-20.is c.convert_while_loop.ensures.finishes_as; visits = stated-visited _ _ _ _ (stop-stated c.convert_while_loop.new.k c.args.c.scope c.in_err-convert_while_loop-in-20.was) c.convert_while_loop.ensures.visits })
 
 pub convert_statement-convert_for_loop-requires : goal.convert_statement-convert_for_loop-requires
 unfolding counted
-convert_statement-convert_for_loop-requires t c = (omega (arith, c.decreases), ((comment_converting c.requires.converting.0 c.requires.converting.1 c.requires.statement (omega arith) c.emit_comment.ensures, comment_afforded c.requires.converting.0 c.requires.converting.1 c.requires.statement (omega arith) c.emit_comment.ensures), (record { below = c.requires.statement.below; kind = sym c.kind-node.ensures ∙ last-kind c.if-node-le-KIND_CALL_STATEMENT.false c.if-node-ge-KIND_BREAK.false c.if-node-eq-KIND_IF.false c.if-node-eq-KIND_WHILE.false }, comment_fresh c.requires.converting.0 c.requires.converting.1 c.requires.statement c.requires.turns c.emit_comment.ensures)))
+convert_statement-convert_for_loop-requires t c = (omega (arith, c.decreases), ((comment_converting c.requires.converting.0 c.requires.converting.1 c.requires.statement (omega arith) c.emit_comment.ensures, comment_afforded c.requires.converting.0 c.requires.converting.1 c.requires.statement (omega arith) c.emit_comment.ensures), (record { below = c.requires.statement.below; kind = sym c.kind.ensures ∙ c.in-21.is }, comment_fresh c.requires.converting.0 c.requires.converting.1 c.requires.statement c.requires.turns c.emit_comment.ensures)))
 
-pub convert_statement-returns : goal.convert_statement-returns
+pub convert_statement-returns-in_ok-convert_for_loop-in-21 : goal.convert_statement-returns-in_ok-convert_for_loop-in-21
 unfolding counted
-convert_statement-returns t c = record { statement_as = commented_for c.requires.converting.0 c.requires.converting.1 c.requires.statement (omega arith) c.emit_comment.ensures c.kind-node.ensures (done-stated c.convert_for_loop.new.k c.args.c.scope c.in_ok-convert_for_loop.was) (last-kind c.if-node-le-KIND_CALL_STATEMENT.false c.if-node-ge-KIND_BREAK.false c.if-node-eq-KIND_IF.false c.if-node-eq-KIND_WHILE.false) c.convert_for_loop.ensures.finishes_as; visits = stated-visited _ _ _ _ (done-stated c.convert_for_loop.new.k c.args.c.scope c.in_ok-convert_for_loop.was) c.convert_for_loop.ensures.visits }
+convert_statement-returns-in_ok-convert_for_loop-in-21 t c = record { statement_as = commented_for c.requires.converting.0 c.requires.converting.1 c.requires.statement (omega arith) c.emit_comment.ensures c.kind.ensures (done-stated c.convert_for_loop.new.k c.args.c.scope c.in_ok-convert_for_loop-in-21.was) c.in-21.is c.convert_for_loop.ensures.finishes_as; visits = stated-visited _ _ _ _ (done-stated c.convert_for_loop.new.k c.args.c.scope c.in_ok-convert_for_loop-in-21.was) c.convert_for_loop.ensures.visits }
 
-pub convert_statement-returns-in_err-convert_for_loop : goal.convert_statement-returns-in_err-convert_for_loop
+pub convert_statement-returns-in_err-convert_for_loop-in-21 : goal.convert_statement-returns-in_err-convert_for_loop-in-21
 unfolding counted
-convert_statement-returns-in_err-convert_for_loop t c = let p = err_from_is_err_and c.from_residual-in_err-convert_for_loop.result c.from_residual-in_err-convert_for_loop.ensures.1 in rw (p.1, p.2) (record { statement_as = commented_for c.requires.converting.0 c.requires.converting.1 c.requires.statement (omega arith) c.emit_comment.ensures c.kind-node.ensures (stop-stated c.convert_for_loop.new.k c.args.c.scope c.in_err-convert_for_loop.was) (last-kind c.if-node-le-KIND_CALL_STATEMENT.false c.if-node-ge-KIND_BREAK.false c.if-node-eq-KIND_IF.false c.if-node-eq-KIND_WHILE.false) c.convert_for_loop.ensures.finishes_as; visits = stated-visited _ _ _ _ (stop-stated c.convert_for_loop.new.k c.args.c.scope c.in_err-convert_for_loop.was) c.convert_for_loop.ensures.visits })
+convert_statement-returns-in_err-convert_for_loop-in-21 t c = let p = err_from_is_err_and c.from_residual-in_err-convert_for_loop-in-21.result c.from_residual-in_err-convert_for_loop-in-21.ensures.1 in rw (p.1, p.2) (record { statement_as = commented_for c.requires.converting.0 c.requires.converting.1 c.requires.statement (omega arith) c.emit_comment.ensures c.kind.ensures (stop-stated c.convert_for_loop.new.k c.args.c.scope c.in_err-convert_for_loop-in-21.was) c.in-21.is c.convert_for_loop.ensures.finishes_as; visits = stated-visited _ _ _ _ (stop-stated c.convert_for_loop.new.k c.args.c.scope c.in_err-convert_for_loop-in-21.was) c.convert_for_loop.ensures.visits })
 
 pub convert_while_loop-convert_block-requires : goal.convert_while_loop-convert_block-requires
 convert_while_loop-convert_block-requires t c = let h = while_list c.requires.converting.0 c.requires.converting.1 c.requires.kind c.reference-body.ensures in (omega (arith, h.0, c.decreases), ((while_converting c.requires.converting.0 c.requires.converting.1 c.requires.kind c.while_head.ensures.head_as (ap (finished_with _) c.in_ok-while_head.was) c.with_loop.ensures c.reference-body.ensures, while_afforded c.requires.converting.0 c.requires.converting.1 c.requires.kind c.while_head.ensures.head_as (ap (finished_with _) c.in_ok-while_head.was) c.with_loop.ensures c.reference-body.ensures), (h.1, (head_visited c.requires.converting.0 c.requires.kind c.requires.fresh c.while_head.ensures.head_as (ap (finished_with _) c.in_ok-while_head.was) c.while_head.ensures.types).turns)))

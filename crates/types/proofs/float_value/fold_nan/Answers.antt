@@ -1,16 +1,17 @@
 -- An operator with a NaN on one side. Each answer is a case of `FoldCases`. Assumes nothing.
+use native.Mathlib.Omega.{arith}
 use Rattle.types.specs.Floats.{float_of}
 use Rattle.types.proofs.FoldCases.{nan_left, nan_right, float_none-low, float_none-high}
 use Rattle.types.proofs.float_value.fold_nan.Goals as goal
 
-pub returns-then-op-le-DIV : goal.returns-then-op-le-DIV
+pub returns-in-13-to-16 : goal.returns-in-13-to-16
 unfolding float_of
-returns-then-op-le-DIV c = record { left = nan_left _ c.if-op-ge-ADD.true c.if-op-le-DIV.true; right = nan_right _ c.if-op-ge-ADD.true c.if-op-le-DIV.true }
+returns-in-13-to-16 c = record { left = nan_left c.args.op (omega arith) (omega arith); right = nan_right c.args.op (omega arith) (omega arith) }
 
-pub returns-else-op-le-DIV : goal.returns-else-op-le-DIV
+pub returns-in_default : goal.returns-in_default
 unfolding float_of
-returns-else-op-le-DIV c = record { left = float_none-high _ c.if-op-le-DIV.false _; right = λ x. float_none-high _ c.if-op-le-DIV.false x _ }
+returns-in_default c = record { left = float_none-low c.args.op (omega arith) _; right = λ x. float_none-low c.args.op (omega arith) x _ }
 
-pub returns-else-op-ge-ADD : goal.returns-else-op-ge-ADD
+pub returns-in_default-2 : goal.returns-in_default-2
 unfolding float_of
-returns-else-op-ge-ADD c = record { left = float_none-low _ c.if-op-ge-ADD.false _; right = λ x. float_none-low _ c.if-op-ge-ADD.false x _ }
+returns-in_default-2 c = record { left = float_none-high c.args.op (omega arith) _; right = λ x. float_none-high c.args.op (omega arith) x _ }

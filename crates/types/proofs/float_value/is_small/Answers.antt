@@ -1,11 +1,10 @@
 -- Between minus the limit and the limit: the two tests of the definition. Assumes nothing.
-use Rattle.types.specs.Floats.{small}
+use mathlib.Core.Path.{refl, ◌∙◌}
+use Rattle.types.proofs.FloatFacts.{small_above, small_below}
 use Rattle.types.proofs.float_value.is_small.Goals as goal
 
 pub returns-then-x : goal.returns-then-x
-unfolding small
-returns-then-x c = simp c.if-x.true
+returns-then-x c = small_above _ _ c.if-x.true refl
 
 pub returns-else-x : goal.returns-else-x
-unfolding small
-returns-else-x c = simp c.if-x.false
+returns-else-x c = c.if-x.false ∙ small_below _ _ c.if-x.false refl
