@@ -180,6 +180,9 @@ module _ (tree text l s : List ℕ) (c : Converter) (e : ℕ) (x : Converting tr
   typed : {y : ℕ} → IsTyped tree (Ok y) → TypeAt tree y
   typed (IsTyped.is t) = t
 
+  unknown : ConvertError
+  unknown = record { kind = UnknownVariable; place = e }
+
   pub name-gives : (v : Known) → r ≡ Some v
       → Converts tree text (expr_steps tree text s c e) (amount 0 0 0 0 0) c l s (Converted.Is (Operand.Var v.var) c.counters) l s
   unfolding name_operand OperandIn
@@ -187,7 +190,7 @@ module _ (tree text l s : List ℕ) (c : Converter) (e : ℕ) (x : Converting tr
       let f = find_some tree text s c.scope (text_of tree text e A) v (met (Some v) q) in
       gives_operand tree text l s c (expr_steps tree text s c e) (Operand.Var v.var) x.room
       (name-steps ∙ rw f.found (ap (λ (z : Ir.VarId). pure (OVar z)) f.var))
-      (typed (Typing.name-known tree text s c.scope e x.ready.scoped is r m v q).type)
+      (typed (Typing.name-known tree text s c.scope e x.ready.scoped is r m unknown v (ap (λ (z : Std.Option Known). Std.ok_or z unknown) q)).type)
 
   pub name_refuses : r ≡ None → (z : ConvertError) → z ≡ record { kind = UnknownVariable; place = e }
       → Converts tree text (expr_steps tree text s c e) (amount 0 0 0 0 0) c l s (Converted.Refused z) l s
