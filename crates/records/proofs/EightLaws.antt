@@ -1,6 +1,7 @@
--- Four bytes compared as a word: two words of 32 bits are the same exactly if their four bytes are.
+-- Four bytes compared as a word: two words of 32 bits are the same exactly if their four bytes are. Four bytes of the rest, each by itself.
 -- A word's bytes are its digits, each below 256. Assumes nothing.
 use mathlib.Core.Path.{◌≡◌, refl, sym, ap, ◌∙◌}
+use mathlib.Core.Bool.{Bool, true, false, ◌&&◌}
 use mathlib.Core.List.{List, [], ◌∷◌}
 use Prim.Native.Nat.{ℕ, ◌+◌, ◌≤◌, ◌<◌}
 use native.Mathlib.Omega.{arith}
@@ -19,6 +20,20 @@ four_bytes t i h =
     let z : i + 0 ≡ i = omega arith in
     rw z at (first_byte t i 4 0 (omega arith) h)
     ∙ rw (first_byte t i 4 1 (omega arith) h, first_byte t i 4 2 (omega arith) h, first_byte t i 4 3 (omega arith) h) refl
+
+all_four : (p q r s : Bool) → (((p && q) && r) && s) ≡ (p && (q && (r && (s && true))))
+all_four false q r s = refl
+all_four true false r s = refl
+all_four true true false s = refl
+all_four true true true false = refl
+all_four true true true true = refl
+
+pub four_singly : (t u : List ℕ) (i j : ℕ) → i + 4 ≤ length t → j + 4 ≤ length u
+    → (((eqb (byte_at t i) (byte_at u j) && eqb (byte_at t (i + 1)) (byte_at u (j + 1))) && eqb (byte_at t (i + 2)) (byte_at u (j + 2)))
+    && eqb (byte_at t (i + 3)) (byte_at u (j + 3)))
+    ≡ same_text (text_at t i 4) (text_at u j 4)
+unfolding same_text
+four_singly t u i j ht hu = rw (four_bytes t i ht, four_bytes u j hu) (all_four (eqb (byte_at t i) (byte_at u j)) (eqb (byte_at t (i + 1)) (byte_at u (j + 1))) (eqb (byte_at t (i + 2)) (byte_at u (j + 2))) (eqb (byte_at t (i + 3)) (byte_at u (j + 3))))
 
 text-word : (t : List ℕ) (i : ℕ) → i + 4 ≤ length t → ((k : ℕ) → byte_at t k < 256) → text_at t i 4 ≡ word (word_at t i)
 unfolding word_at

@@ -13,7 +13,7 @@ pub fn reach(text: &[u8], offset: usize, len: usize) -> usize
 }
 
 // Whether four bytes of s from i on and of t from j on are the same, as one load each.
-fn same_four(s: &[u8], i: usize, t: &[u8], j: usize) -> bool
+fn same_word(s: &[u8], i: usize, t: &[u8], j: usize) -> bool
     requires { (i + 4 ≤ length s.now) × (j + 4 ≤ length t.now) }
     ensures { result ≡ same_text (text_at s.now i 4) (text_at t.now j 4) }
 {
@@ -26,7 +26,7 @@ pub fn same_eight(s: &[u8], i: usize, t: &[u8], j: usize) -> bool
     requires { (i + 8 ≤ length s.now) × (j + 8 ≤ length t.now) }
     ensures { result ≡ same_text (text_at s.now i 8) (text_at t.now j 8) }
 {
-    same_four(s, i, t, j) & same_four(s, i + 4, t, j + 4)
+    same_word(s, i, t, j) & same_word(s, i + 4, t, j + 4)
 }
 
 // The same of N eights, side by side: their number is fixed, so that the compiler lays them one beside the other.
@@ -47,6 +47,14 @@ pub fn same_sixty_four(s: &[u8], i: usize, t: &[u8], j: usize) -> bool
     ensures { result ≡ same_text (text_at s.now i 64) (text_at t.now j 64) }
 {
     same_eights::<8>(s, i, t, j)
+}
+
+// Four bytes of the rest, each by itself. Nothing branches between them, so that the compiler compares them at once.
+fn same_four(s: &[u8], i: usize, t: &[u8], j: usize) -> bool
+    requires { (i + 4 ≤ length s.now) × (j + 4 ≤ length t.now) }
+    ensures { result ≡ same_text (text_at s.now i 4) (text_at t.now j 4) }
+{
+    (s[i] == t[j]) & (s[i + 1] == t[j + 1]) & (s[i + 2] == t[j + 2]) & (s[i + 3] == t[j + 3])
 }
 
 // Three bytes at most. The number of turns is fixed, so that the compiler lays them one behind the other.
