@@ -47,11 +47,11 @@ cap_rises m x y h =
     omega (arith, cap_low m x (omega arith), cap_low m y (omega arith)))
     (λ t. omega (arith, cap_small m x, cap_high m y (ltb-false y m t)))
 
-larger-second : (x y : ℕ) → x ≤ y → y ≡ larger x y
+pub larger-second : (x y : ℕ) → x ≤ y → y ≡ larger x y
 unfolding larger
 larger-second x y h = sym (pick_yes (leb x y) y x (le-leb x y h))
 
-larger-first : (x y : ℕ) → y < x → x ≡ larger x y
+pub larger-first : (x y : ℕ) → y < x → x ≡ larger x y
 unfolding larger
 larger-first x y h = sym (pick_no (leb x y) y x (lt-leb x y h))
 

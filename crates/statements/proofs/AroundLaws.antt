@@ -162,7 +162,7 @@ module _ {tree text s s' : List ℕ} (c : Converter) (e y : ℕ) {t : OrRefused 
   unfolding operand_type common_result type_result
   common-refused x q = record { frame = m.frame; typed = IsTyped.no; meets = meets_as (Err x) (ap (λ (z : OrRefused (Std.Option ℕ)). operand_type (common_result z) y) q) }
 
-  common-is : (z : ℕ) → t ≡ Ok (Some z) → OperandTyped tree text s c e y (Ok z) s'
+  pub common-is : (z : ℕ) → t ≡ Ok (Some z) → OperandTyped tree text s c e y (Ok z) s'
   unfolding operand_type common_result type_result
   common-is z q = record {
     frame = m.frame;
@@ -170,7 +170,7 @@ module _ {tree text s s' : List ℕ} (c : Converter) (e y : ℕ) {t : OrRefused 
     meets = meets_as (Ok z) (ap (λ (z : OrRefused (Std.Option ℕ)). operand_type (common_result z) y) q);
   }
 
-  common-neither : t ≡ Ok None → TypeAt tree y → OperandTyped tree text s c e y (Ok y) s'
+  pub common-neither : t ≡ Ok None → TypeAt tree y → OperandTyped tree text s c e y (Ok y) s'
   unfolding operand_type common_result type_result
   common-neither q h = record { frame = m.frame; typed = IsTyped.is h; meets = meets_as (Ok y) (ap (λ (z : OrRefused (Std.Option ℕ)). operand_type (common_result z) y) q) }
 
@@ -184,11 +184,11 @@ module _ {tree text s s' : List ℕ} (c : Converter) (e : ℕ) {t : OrRefused (S
   sides_types_lem : (o : Option ℕ) → common_result t ≡ ok o → (u : OrRefused ℕ) → CommonTyped c e tree text s u s'
   sides_types_lem o q u z h = m.adds o q
 
-  is-types : (z : ℕ) → t ≡ Ok (Some z) → (u : OrRefused ℕ) → CommonTyped c e tree text s u s'
+  pub is-types : (z : ℕ) → t ≡ Ok (Some z) → (u : OrRefused ℕ) → CommonTyped c e tree text s u s'
   unfolding common_result
   is-types z q u = sides_types_lem (some z) (ap common_result q) u
 
-  neither-types : t ≡ Ok None → (u : OrRefused ℕ) → CommonTyped c e tree text s u s'
+  pub neither-types : t ≡ Ok None → (u : OrRefused ℕ) → CommonTyped c e tree text s u s'
   unfolding common_result
   neither-types q u = sides_types_lem none (ap common_result q) u
 

@@ -35,7 +35,7 @@ use Rattle.ir.specs.Instructions.{operand_of, var_of}
 use Rattle.ir.specs.Steps.{Emits, AddsVar, named}
 use Rattle.ir.proofs.StepLaws.{next_in}
 use Rattle.statements.specs.Lent.{Converter, Converted, Finished, Fitted}
-use Rattle.statements.specs.Converting.{Converting, with_counters, RoomFor, expr_amount, head_amount, turns_amount, ExprAfforded, BehindAfforded, BoundAfforded}
+use Rattle.statements.specs.Converting.{Converting, with_counters, RoomFor, OperandIn, expr_amount, head_amount, turns_amount, ExprAfforded, BehindAfforded, BoundAfforded}
 use Rattle.statements.specs.Meets.{Adds, texts_of}
 use Rattle.statements.specs.Parts.{emit_jump, jump_if_not, place_label, copy_fitted, count_on, test_bound, if_head, while_head, for_begin, for_test, if_middle, loop_back}
 use Rattle.statements.specs.Answers.{FitAdds, Converts, Finishes, expr_steps, cond_steps, if_head_steps, while_head_steps, for_begin_steps, for_test_steps}
@@ -264,8 +264,15 @@ module _ {tree text l s : List ℕ} {c : Converter} (r n : ℕ) {e : ℕ} (p : C
 
   module _ {a : Converted} {l₁ s₁ : List ℕ} (i : Converts tree text (expr_steps tree text s c e) (expr_amount (under (expr_at tree text e))) c l s a l₁ s₁)
       {o : Operand} {k : Counters} (w : a ≡ Converted.Is o k) where
+    -- what the bound itself leaves of the part's amount
+    pub bound_room : {n₂ : Amount} → Most (both (expr_amount (under (expr_at tree text e))) n₂) (turns_amount (under (expr_at tree text e))) → RoomFor k l₁ n₂
+    bound_room h = record { room = (converted-next i w).next.room; affords = omega (arith, f.tables, same-under tree text q, (converted-next i w).spent, h) }
+
     pub count_room : {m : M (Unit {0})} {k₁ : Counters} {l₂ : List ℕ} → Adds m (amount 2 1 0 0 1) k l₁ tt k₁ l₂ → RoomFor k₁ l₂ (amount 4 0 3 0 0)
     count_room g = record { room = g.next.room; affords = omega (arith, f.tables, same-under tree text q, (converted-next i w).spent, g.spent) }
+
+    pub bound_operand : OperandIn tree (operand_of o)
+    bound_operand = i.operand o k w
 
 -- a For up to its check, behind its first bound
 abbrev begins : List ℕ → List ℕ → ℕ → VarId → Ir.Operand → M (Unit {0})
