@@ -1,12 +1,12 @@
--- Cutting out: what is there once the rest is zero, and that the buffers then hold the tables.
--- By the laws of parts, and by what the arena holds. Assumes nothing.
+-- Cutting out: what the loop that copies has done after i turns, what is there once the rest is zero, and that the buffers then hold the tables.
+-- By the laws of a copy and of parts, and by what the arena holds. Assumes nothing.
 use mathlib.Core.Path.{◌≡◌, sym, ap, ap₂, ◌∙◌}
 use mathlib.Core.List.{List, [], ◌++◌, append-nil}
-use Prim.Native.Nat.{ℕ, ◌+◌, ◌-◌, ◌*◌, ◌≤◌}
+use Prim.Native.Nat.{ℕ, suc, ◌+◌, ◌-◌, ◌*◌, ◌≤◌, ◌<◌}
 use native.Mathlib.Omega.{arith}
 use borrow.Rule.Slice.PartMut.{put_mid}
-use lib.ListN.{length, take, drop, replicate, length-drop}
-use lib.Seq.{length-take-le, drop-drop, drop-length}
+use lib.ListN.{length, take, drop, get_or, set, replicate, length-drop}
+use lib.Seq.{paste, paste-suc, get_or-drop, length-take-le, drop-drop, drop-length}
 use Rattle.laws.specs.Splice.{part, filled}
 use Rattle.conversion.specs.Ir.{IrProgram}
 use Rattle.conversion.specs.Written.{encode_all, encode_instr, encode_var, encode_label, encode_functions, all_code, all_vars, all_labels, tables_of}
@@ -15,6 +15,21 @@ use Rattle.ir.specs.declared.structs.Counters.{Counters}
 use Rattle.ir.specs.Arena.{Table, NumberedTexts, TablesSoFar, Holds}
 use Rattle.ir.specs.Cut.{Cut}
 use Rattle.ir.proofs.Entries.{bytes-length}
+
+-- ---- copying
+
+pub copy_more : (d l : List ℕ) (from i : ℕ) → i < length d → from + i < length l
+    → set (part l from i ++ drop i d) i (get_or l (from + i) 0) ≡ part l from (i + 1) ++ drop (i + 1) d
+copy_more d l from i hd hl =
+    let s : List ℕ = drop from l in
+    let z : 0 + i ≡ i = omega arith in
+    let y : 0 + suc i ≡ i + 1 = omega arith in
+    let x : suc i ≡ i + 1 = omega arith in
+    let p : set (paste d 0 s i) (0 + i) (get_or s i 0) ≡ paste d 0 s (suc i) = paste-suc d 0 s i 0 (omega arith) (rw length-drop (omega arith)) in
+    ap (λ (v : ℕ). set (take i s ++ drop i d) i v) (sym (get_or-drop from l i 0))
+    ∙ ap (λ (m : ℕ). set (take i s ++ drop m d) m (get_or s i 0)) (sym z)
+    ∙ p
+    ∙ ap₂ (λ (m j : ℕ). take m s ++ drop j d) x y
 
 -- ---- clearing
 

@@ -11,6 +11,16 @@ use crate::arena::{
 };
 use crate::structs::Counters;
 
+// `len` bytes from byte `from` on, to the start of `out`: by a loop, since the library's copy would have the archive need `memmove` from whoever links it.
+fn copy(src: &[u8], from: usize, len: usize, out: &mut [u8])
+    requires { (from + len ≤ length src.now) × (len ≤ length out.old) }
+    ensures { out.new ≡ part src.now from len ++ drop len out.old }
+{
+    for i in 0..len {
+        out[i] = src[from + i];
+    }
+}
+
 // Zero from byte `at` on.
 fn clear_from(out: &mut [u8], at: usize)
     requires { at ≤ length out.old }
@@ -24,7 +34,7 @@ fn cut(src: &[u8], from: usize, len: usize, out: &mut [u8])
     requires { (from + len ≤ length src.now) × (len ≤ length out.old) }
     ensures { out.new ≡ filled (part src.now from len) (length out.new) }
 {
-    out[..len].copy_from_slice(&src[from..from + len]);
+    copy(src, from, len, out);
     clear_from(out, len);
 }
 
