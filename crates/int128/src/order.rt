@@ -116,5 +116,10 @@ fn greatest(short: bool, unsigned: bool) -> Int128
 pub fn int_fits(value: Int128, short: bool, unsigned: bool) -> bool
     ensures { result ≡ int_fits (value_of value) short unsigned }
 {
-    least(short, unsigned) <= value && value <= greatest(short, unsigned)
+    // No range ends on the far side of 0: the sign tells which end to compare with.
+    if value.hi < SIGN {
+        value <= greatest(short, unsigned)
+    } else {
+        least(short, unsigned) <= value
+    }
 }
