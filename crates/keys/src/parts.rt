@@ -58,10 +58,13 @@ pub fn is_variadic_mark(text: &[u8], p: Part) -> bool
     same_bytes(text, p, b"$...")
 }
 
-// Whether a part is Latin. The library asks this of many bytes at once.
+// Whether a part is Latin. The library asks this of many bytes at once; most names are Hangul, and told by their first byte.
 pub fn is_ascii(text: &[u8], p: Part) -> bool
     requires { p.offset + p.len ≤ length text.now }
     ensures { result ≡ is_ascii (text_at text.now p.offset p.len) }
 {
+    if 0 < p.len && text[p.offset] >= 128 {
+        return false;
+    }
     text[p.offset..p.offset + p.len].is_ascii()
 }
