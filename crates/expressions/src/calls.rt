@@ -139,10 +139,12 @@ pub(crate) fn resolve_typed(
 {
     let call = call_of(tree, text, scratch, r);
     let place = r as u32;
-    if let Some(y) = cast_type(tree, text, scratch, call, place)? {
-        return Ok(Callee::Cast(y));
+    // By a match, not by `?`: what `?` passes on is copied in pieces that the processor does not forward.
+    match cast_type(tree, text, scratch, call, place) {
+        Err(e) => Err(e),
+        Ok(Some(y)) => Ok(Callee::Cast(y)),
+        Ok(None) => resolve_function(tree, text, scratch, call, place),
     }
-    resolve_function(tree, text, scratch, call, place)
 }
 
 // The record of what a call runs: the function's, or that of the type it casts to.

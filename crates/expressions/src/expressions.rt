@@ -55,24 +55,35 @@ fn work_out(
 {
     let k = kind(tree, e);
     let left = reference(tree, e, WORD_A);
+    // By matches, not by `?`: what `?` passes on is copied in pieces that the processor does not forward.
     if k == KIND_UNARY {
-        let ty = get_type(tree, text, scratch, scope, turn, left)?;
-        let a = unary_type(tree, text, e, ty);
-        return keep(tree, scratch, turn, e, a, NOTHING);
+        return match get_type(tree, text, scratch, scope, turn, left) {
+            Err(x) => Err(x),
+            Ok(ty) => {
+                let a = unary_type(tree, text, e, ty);
+                keep(tree, scratch, turn, e, a, NOTHING)
+            }
+        };
     }
     if k == KIND_BINARY {
         let right = reference(tree, e, WORD_B);
-        let l = get_type(tree, text, scratch, scope, turn, left)?;
-        let r = get_type(tree, text, scratch, scope, turn, right)?;
-        let sides = Sides {
-            left,
-            left_type: l,
-            right,
-            right_type: r,
+        return match get_type(tree, text, scratch, scope, turn, left) {
+            Err(x) => Err(x),
+            Ok(l) => match get_type(tree, text, scratch, scope, turn, right) {
+                Err(x) => Err(x),
+                Ok(r) => {
+                    let sides = Sides {
+                        left,
+                        left_type: l,
+                        right,
+                        right_type: r,
+                    };
+                    let common = common_of(tree, text, sides);
+                    let a = binary_type(tree, text, e, sides, common);
+                    keep(tree, scratch, turn, e, a, common.unwrap_or(NOTHING))
+                }
+            },
         };
-        let common = common_of(tree, text, sides);
-        let a = binary_type(tree, text, e, sides, common);
-        return keep(tree, scratch, turn, e, a, common.unwrap_or(NOTHING));
     }
     if k == KIND_CALL {
         let callee = find_callee(tree, text, scratch, scope, turn, e);
@@ -165,7 +176,8 @@ pub fn common_type(
     find_common(tree, text, scratch, scope, turn, left, right)
 }
 
-// The type that two expressions both take.
+// The type that two expressions both take. It stays apart: then the answer of `common_type` needs no memory where the type is kept.
+#[inline(never)]
 fn find_common(
     tree: &[u8],
     text: &[u8],
@@ -180,13 +192,19 @@ fn find_common(
     requires expr_2 { IsExpr tree.now right }
     ensures { CommonMeets tree.now text.now scratch.old scope turn left right result scratch.new }
 {
-    let l = get_type(tree, text, scratch, scope, turn, left)?;
-    let r = get_type(tree, text, scratch, scope, turn, right)?;
-    let sides = Sides {
-        left,
-        left_type: l,
-        right,
-        right_type: r,
-    };
-    Ok(common_of(tree, text, sides))
+    match get_type(tree, text, scratch, scope, turn, left) {
+        Err(x) => Err(x),
+        Ok(l) => match get_type(tree, text, scratch, scope, turn, right) {
+            Err(x) => Err(x),
+            Ok(r) => {
+                let sides = Sides {
+                    left,
+                    left_type: l,
+                    right,
+                    right_type: r,
+                };
+                Ok(common_of(tree, text, sides))
+            }
+        },
+    }
 }

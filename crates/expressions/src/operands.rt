@@ -148,9 +148,11 @@ pub(crate) fn value_type(
     requires e_bound { e < records tree.now }
     ensures { TypeIs tree.now result (value_result tree.now text.now e callee) }
 {
-    match callee? {
-        Callee::Cast(y) => Ok(y),
-        Callee::Function(f) => {
+    // By a match, not by `?`: what `?` passes on is copied in pieces that the processor does not forward.
+    match callee {
+        Err(x) => Err(x),
+        Ok(Callee::Cast(y)) => Ok(y),
+        Ok(Callee::Function(f)) => {
             let y = reference(tree, f, WORD_D);
             if y == NONE as usize {
                 return refuse(ConvertErrorKind::NoValue, e);
@@ -191,11 +193,10 @@ fn name_type(
     requires kind { IsKind tree.now kind_name e }
     ensures { TypeIs tree.now result (type_in tree.now text.now (scope_at tree.now text.now scratch.now scope) e) }
 {
-    let known = find_name(tree, text, scratch, scope, e).ok_or(ConvertError {
-        kind: ConvertErrorKind::UnknownVariable,
-        place: e as u32,
-    })?;
-    Ok(known.var.1 as usize)
+    match find_name(tree, text, scratch, scope, e) {
+        Some(known) => Ok(known.var.1 as usize),
+        None => refuse(ConvertErrorKind::UnknownVariable, e),
+    }
 }
 
 // The type of an expression without operands.

@@ -59,9 +59,14 @@ pub(crate) fn keep(
     requires { Keepable tree.now e a b scratch.old }
     ensures { Keeps tree.now turn e a b scratch.old result scratch.new }
 {
-    let y = a?;
-    visit(tree, scratch, turn, e, y, b);
-    Ok(y)
+    // By a match, not by `?`: what `?` passes on is copied in pieces that the processor does not forward.
+    match a {
+        Err(x) => Err(x),
+        Ok(y) => {
+            visit(tree, scratch, turn, e, y, b);
+            Ok(y)
+        }
+    }
 }
 
 // What is kept beside the type of e.

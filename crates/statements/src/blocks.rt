@@ -94,23 +94,24 @@ fn convert_statement(
     };
     match kind(tree, r) {
         KIND_DECLARE..=KIND_CALL_STATEMENT => convert_plain(tree, text, arena, scratch, k, at, r),
-        KIND_IF => {
-            convert_if(tree, text, arena, scratch, k, at, r)?;
-            Ok(c.scope)
-        }
-        KIND_WHILE => {
-            convert_while_loop(tree, text, arena, scratch, k, at, r)?;
-            Ok(c.scope)
-        }
-        KIND_FOR => {
-            convert_for_loop(tree, text, arena, scratch, k, at, r)?;
-            Ok(c.scope)
-        }
+        KIND_IF => match convert_if(tree, text, arena, scratch, k, at, r) {
+            Ok(()) => Ok(c.scope),
+            Err(e) => Err(e),
+        },
+        KIND_WHILE => match convert_while_loop(tree, text, arena, scratch, k, at, r) {
+            Ok(()) => Ok(c.scope),
+            Err(e) => Err(e),
+        },
+        KIND_FOR => match convert_for_loop(tree, text, arena, scratch, k, at, r) {
+            Ok(()) => Ok(c.scope),
+            Err(e) => Err(e),
+        },
         _ => convert_jump(tree, text, arena, scratch, k, at, r),
     }
 }
 
-// The block whose first cell this is, in a scope of its own.
+// The block whose first cell this is, in a scope of its own. By a match, not by `?`: what `?` passes on is copied in pieces that the processor does
+// not forward.
 #[cycle(convert_block_convert_for_loop_convert_if_convert_statement_convert_while_loop)]
 pub fn convert_block(
     tree: &[u8],
@@ -131,7 +132,10 @@ pub fn convert_block(
     let mut at = c;
     while cell != END {
         let r = reference(tree, cell, WORD_A);
-        at.scope = convert_statement(tree, text, arena, scratch, k, at, r)?;
+        match convert_statement(tree, text, arena, scratch, k, at, r) {
+            Ok(scope) => at.scope = scope,
+            Err(e) => return Err(e),
+        }
         cell = next_cell(tree, cell);
     }
     Ok(())
@@ -212,12 +216,16 @@ fn convert_for_loop(
     ensures visits { FinishedVisited r tree.now text.now scratch.old (finished_with k.new result) scratch.new }
 {
     let body = reference(tree, r, WORD_D);
-    let scope = for_head(tree, text, arena, scratch, k, c, r)?;
-    let inner = Converter {
-        scope: scope.with_loop(r as u32),
-        ..c
-    };
-    convert_block(tree, text, arena, scratch, k, inner, body)?;
-    loop_end(arena, k, r);
-    Ok(())
+    match for_head(tree, text, arena, scratch, k, c, r) {
+        Ok(scope) => {
+            let inner = Converter {
+                scope: scope.with_loop(r as u32),
+                ..c
+            };
+            convert_block(tree, text, arena, scratch, k, inner, body)?;
+            loop_end(arena, k, r);
+            Ok(())
+        }
+        Err(e) => Err(e),
+    }
 }

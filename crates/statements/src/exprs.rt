@@ -1,5 +1,6 @@
 // statements.rs: the instructions of an expression. The functions that call each other convert parts of records, whose numbers fall;
 // arguments are walked by a loop.
+// An answer is passed on by a match, not by `?`: what `?` passes on is copied in pieces that the processor does not forward.
 ghost use Rattle.std.specs.Prelude.{◌+◌};
 ghost use Rattle.records.specs.Words as Words;
 ghost use Rattle.records.specs.Words.{word_of};
@@ -43,14 +44,18 @@ pub(crate) fn convert_expr(
     if node <= KIND_SIZE_OF {
         return operand(tree, text, arena, scratch, k, c, e);
     }
-    let y = get_type(tree, text, scratch, c.scope, c.turn, e)?;
-    if node == KIND_UNARY {
-        return convert_unary(tree, text, arena, scratch, k, c, e, y);
+    match get_type(tree, text, scratch, c.scope, c.turn, e) {
+        Err(x) => Err(x),
+        Ok(y) => {
+            if node == KIND_UNARY {
+                return convert_unary(tree, text, arena, scratch, k, c, e, y);
+            }
+            if node == KIND_BINARY {
+                return convert_binary(tree, text, arena, scratch, k, c, e, y);
+            }
+            convert_call_value(tree, text, arena, scratch, k, c, e, y)
+        }
     }
-    if node == KIND_BINARY {
-        return convert_binary(tree, text, arena, scratch, k, c, e, y);
-    }
-    convert_call_value(tree, text, arena, scratch, k, c, e, y)
 }
 
 // The Unary e, of type y.
@@ -73,8 +78,10 @@ fn convert_unary(
 {
     let op = detail(tree, e);
     let part = reference(tree, e, WORD_A);
-    let src = convert_expr(tree, text, arena, scratch, k, c, part)?;
-    Ok(finish_unary(arena, k, op, src, y))
+    match convert_expr(tree, text, arena, scratch, k, c, part) {
+        Err(x) => Err(x),
+        Ok(src) => Ok(finish_unary(arena, k, op, src, y)),
+    }
 }
 
 // The Binary e, of type y.
@@ -95,14 +102,20 @@ fn convert_binary(
     ensures converts_as { ConvertsAs (given binary_steps y) (at c k.old) e tree.now text.now arena.old scratch.old (converted k.new result) arena.new scratch.new }
     ensures types { ConvertsTyped binary_types (at c k.old) e tree.now text.now scratch.old (converted k.new result) scratch.new }
 {
-    let q = operand_type(tree, text, scratch, c, e, y)?;
-    if detail(tree, e) <= AND {
-        return convert_logic(tree, text, arena, scratch, k, c, e, y);
+    match operand_type(tree, text, scratch, c, e, y) {
+        Err(x) => Err(x),
+        Ok(q) => {
+            if detail(tree, e) <= AND {
+                return convert_logic(tree, text, arena, scratch, k, c, e, y);
+            }
+            convert_other(tree, text, arena, scratch, k, c, e, y, q)
+        }
     }
-    convert_other(tree, text, arena, scratch, k, c, e, y, q)
 }
 
-// The And or Or e: the right side is computed only where the left one does not decide.
+// The And or Or e: the right side is computed only where the left one does not decide. Inlined, so that a level of nesting takes one frame of the
+// stack and not two.
+#[inline(always)]
 #[cycle(convert_args_convert_binary_convert_call_value_convert_expr_convert_logic_convert_other_convert_unary)]
 fn convert_logic(
     tree: &[u8],
@@ -123,13 +136,20 @@ fn convert_logic(
     let left = reference(tree, e, WORD_A);
     let right = reference(tree, e, WORD_B);
     let dest = begin_logic(arena, k, e, y);
-    let a = convert_expr(tree, text, arena, scratch, k, c, left)?;
-    join_logic(tree, arena, k, e, dest, a);
-    let b = convert_expr(tree, text, arena, scratch, k, c, right)?;
-    Ok(end_logic(arena, k, e, dest, b))
+    match convert_expr(tree, text, arena, scratch, k, c, left) {
+        Err(x) => Err(x),
+        Ok(a) => {
+            join_logic(tree, arena, k, e, dest, a);
+            match convert_expr(tree, text, arena, scratch, k, c, right) {
+                Err(x) => Err(x),
+                Ok(b) => Ok(end_logic(arena, k, e, dest, b)),
+            }
+        }
+    }
 }
 
-// Any other Binary e.
+// Any other Binary e. Inlined, as convert_logic is.
+#[inline(always)]
 #[cycle(convert_args_convert_binary_convert_call_value_convert_expr_convert_logic_convert_other_convert_unary)]
 fn convert_other(
     tree: &[u8],
@@ -151,9 +171,13 @@ fn convert_other(
     let op = detail(tree, e);
     let left = reference(tree, e, WORD_A);
     let right = reference(tree, e, WORD_B);
-    let a = convert_expr(tree, text, arena, scratch, k, c, left)?;
-    let b = convert_expr(tree, text, arena, scratch, k, c, right)?;
-    Ok(finish_binary(tree, arena, k, op, a, b, y, q))
+    match convert_expr(tree, text, arena, scratch, k, c, left) {
+        Err(x) => Err(x),
+        Ok(a) => match convert_expr(tree, text, arena, scratch, k, c, right) {
+            Err(x) => Err(x),
+            Ok(b) => Ok(finish_binary(tree, arena, k, op, a, b, y, q)),
+        },
+    }
 }
 
 // The call e, of type y, whose result is used: a Call, or a Cast.
@@ -174,9 +198,13 @@ fn convert_call_value(
     ensures converts_as { ConvertsAs (given call_steps y) (at c k.old) e tree.now text.now arena.old scratch.old (converted k.new result) arena.new scratch.new }
     ensures types { ConvertsTyped call_types (at c k.old) e tree.now text.now scratch.old (converted k.new result) scratch.new }
 {
-    let callee = resolve_call(tree, text, scratch, c.scope, c.turn, e)?;
-    let count = convert_args(tree, text, arena, scratch, k, c, e)?;
-    finish_call(tree, text, arena, scratch, k, c, e, y, callee, count)
+    match resolve_call(tree, text, scratch, c.scope, c.turn, e) {
+        Err(x) => Err(x),
+        Ok(callee) => match convert_args(tree, text, arena, scratch, k, c, e) {
+            Err(x) => Err(x),
+            Ok(count) => finish_call(tree, text, arena, scratch, k, c, e, y, callee, count),
+        },
+    }
 }
 
 // The values of the call e go onto the stack, above what waits there; a type gives none.
@@ -202,10 +230,14 @@ pub(crate) fn convert_args(
     let mut at = c;
     while cell != END {
         if let Argument::Expr(value) = argument_at(tree, text, cell) {
-            let o = convert_expr(tree, text, arena, scratch, k, at, value)?;
-            let top = at.operands;
-            push_operand(scratch, n, top, o);
-            at.operands = top + 1;
+            match convert_expr(tree, text, arena, scratch, k, at, value) {
+                Err(x) => return Err(x),
+                Ok(o) => {
+                    let top = at.operands;
+                    push_operand(scratch, n, top, o);
+                    at.operands = top + 1;
+                }
+            }
         }
         cell = next_cell(tree, cell);
     }

@@ -56,7 +56,8 @@ fn if_not_label(tree: &[u8], r: usize) -> LabelKind
     LabelKind::ConditionEnd
 }
 
-// The If r before its then-block.
+// The If r before its then-block. Its condition, as each value below, is looked at by a match, not by `?`: what `?` passes on is copied in pieces
+// that the processor does not forward.
 pub(crate) fn if_head(
     tree: &[u8],
     text: &[u8],
@@ -74,9 +75,13 @@ pub(crate) fn if_head(
 {
     let e = reference(tree, r, WORD_A);
     let label = if_not_label(tree, r);
-    let cond = convert_cond(tree, text, arena, scratch, k, c, e)?;
-    jump_if_not(arena, k, cond, label, r);
-    Ok(())
+    match convert_cond(tree, text, arena, scratch, k, c, e) {
+        Ok(cond) => {
+            jump_if_not(arena, k, cond, label, r);
+            Ok(())
+        }
+        Err(x) => Err(x),
+    }
 }
 
 // Between the blocks of the If r.
@@ -114,9 +119,13 @@ pub(crate) fn while_head(
 {
     let e = reference(tree, r, WORD_A);
     place_label(arena, k, LabelKind::LoopStart, r);
-    let cond = convert_cond(tree, text, arena, scratch, k, c, e)?;
-    jump_if_not(arena, k, cond, LabelKind::LoopEnd, r);
-    Ok(())
+    match convert_cond(tree, text, arena, scratch, k, c, e) {
+        Ok(cond) => {
+            jump_if_not(arena, k, cond, LabelKind::LoopEnd, r);
+            Ok(())
+        }
+        Err(x) => Err(x),
+    }
 }
 
 // Behind the body of the While or For r.
@@ -146,12 +155,13 @@ fn for_declared(
     ensures types { VariableTyped (at c k.old) tree.now text.now scratch.old (found_variable k.new result) scratch.new }
 {
     let x = new_var(arena, k, word(tree, v, WORD_C));
-    let taken = error_at(ConvertErrorKind::AlreadyDeclared, r);
-    let next = declare_name(tree, text, scratch, c.scope, v, x, false).ok_or(taken)?;
-    Ok(ForVariable {
-        var: x,
-        scope: next,
-    })
+    match declare_name(tree, text, scratch, c.scope, v, x, false) {
+        Some(next) => Ok(ForVariable {
+            var: x,
+            scope: next,
+        }),
+        None => Err(error_at(ConvertErrorKind::AlreadyDeclared, r)),
+    }
 }
 
 // The For r that changes a variable of the blocks around it, named in record v.
@@ -167,15 +177,18 @@ fn for_known(
     requires kind { IsKind tree.now kind_for r × (v ≡ word_of tree.now r Words.A) × (word_of tree.now v Words.C ≡ Words.none) }
     ensures { VariableStays for_variable_steps c r tree.now text.now scratch.now result }
 {
-    let unknown = error_at(ConvertErrorKind::UnknownVariable, r);
-    let known = find_name(tree, text, scratch, c.scope, v).ok_or(unknown)?;
-    if known.constant {
-        return Err(error_at(ConvertErrorKind::AssignToConstant, r));
+    match find_name(tree, text, scratch, c.scope, v) {
+        Some(known) => {
+            if known.constant {
+                return Err(error_at(ConvertErrorKind::AssignToConstant, r));
+            }
+            Ok(ForVariable {
+                var: known.var,
+                scope: c.scope,
+            })
+        }
+        None => Err(error_at(ConvertErrorKind::UnknownVariable, r)),
     }
-    Ok(ForVariable {
-        var: known.var,
-        scope: c.scope,
-    })
 }
 
 // The variable of the For r.
@@ -215,8 +228,10 @@ fn check_bound(
     ensures by_index_2 { (k : List ℕ) → Checks tree.now (bound_steps tree.now text.now scratch.old (at c k) e y) scratch.old result scratch.new }
     ensures types { (k : List ℕ) → ChecksTyped bound_types (at c k) e tree.now text.now scratch.old result scratch.new }
 {
-    let q = get_type(tree, text, scratch, c.scope, c.turn, e)?;
-    check_fits(tree, e, q, y, ConvertErrorKind::NotInteger, e)
+    match get_type(tree, text, scratch, c.scope, c.turn, e) {
+        Ok(q) => check_fits(tree, e, q, y, ConvertErrorKind::NotInteger, e),
+        Err(x) => Err(x),
+    }
 }
 
 // Both bounds of the For r are looked at before either is converted.
@@ -270,10 +285,14 @@ fn for_begin(
     ensures types { FinishesTyped for_begin_types (at c k.old) r tree.now text.now scratch.old (finished_with k.new result) scratch.new }
 {
     let from = reference(tree, r, WORD_B);
-    let a = convert_expr(tree, text, arena, scratch, k, c, from)?;
-    copy_fitted(tree, arena, k, x, a);
-    count_on(tree, arena, k, r, x);
-    Ok(())
+    match convert_expr(tree, text, arena, scratch, k, c, from) {
+        Ok(a) => {
+            copy_fitted(tree, arena, k, x, a);
+            count_on(tree, arena, k, r, x);
+            Ok(())
+        }
+        Err(e) => Err(e),
+    }
 }
 
 // Whether the variable is below the bound, or the For r ends.
@@ -305,9 +324,13 @@ fn for_test(
     ensures types { FinishesTyped for_test_types (at c k.old) r tree.now text.now scratch.old (finished_with k.new result) scratch.new }
 {
     let until = reference(tree, r, WORD_C);
-    let b = convert_expr(tree, text, arena, scratch, k, c, until)?;
-    test_bound(tree, arena, k, r, x, b);
-    Ok(())
+    match convert_expr(tree, text, arena, scratch, k, c, until) {
+        Ok(b) => {
+            test_bound(tree, arena, k, r, x, b);
+            Ok(())
+        }
+        Err(e) => Err(e),
+    }
 }
 
 // The For r from its variable on, up to its body.
@@ -352,7 +375,11 @@ pub(crate) fn for_head(
     ensures for_head_as { ForHeadAs for_head_steps (at c k.old) r tree.now text.now arena.old scratch.old (stated k.new result) arena.new scratch.new }
     ensures types { StatesTyped for_types (at c k.old) r tree.now text.now scratch.old (stated k.new result) scratch.new }
 {
-    let found = for_variable(tree, text, arena, scratch, k, c, r)?;
-    for_turns(tree, text, arena, scratch, k, c, r, found.var)?;
-    Ok(found.scope)
+    match for_variable(tree, text, arena, scratch, k, c, r) {
+        Ok(found) => match for_turns(tree, text, arena, scratch, k, c, r, found.var) {
+            Ok(()) => Ok(found.scope),
+            Err(e) => Err(e),
+        },
+        Err(e) => Err(e),
+    }
 }

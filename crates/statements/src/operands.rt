@@ -160,9 +160,11 @@ fn name_operand(
     requires { Ready tree.now text.now scratch.now c.scope × IsKind tree.now kind_name e }
     ensures { LeafStays c e tree.now text.now scratch.now result }
 {
-    let unknown = error_at(ConvertErrorKind::UnknownVariable, e);
-    let known = find_name(tree, text, scratch, c.scope, e).ok_or(unknown)?;
-    Ok(Operand::Var(known.var))
+    // By a match, not by `?`: what `?` passes on is copied in pieces that the processor does not forward.
+    match find_name(tree, text, scratch, c.scope, e) {
+        Some(known) => Ok(Operand::Var(known.var)),
+        None => Err(error_at(ConvertErrorKind::UnknownVariable, e)),
+    }
 }
 
 // The operand is tagged signed, though a SizeOf's type is unsigned.

@@ -76,7 +76,8 @@ pub(crate) fn join_or(arena: &mut [u8], k: &mut [usize], e: usize, dest: VarId, 
     place_label(arena, k, LabelKind::LogicRhs, e);
 }
 
-// What stands between the sides of the And or Or e: the left one is copied, and tested.
+// What stands between the sides of the And or Or e: the left one is copied, and tested. Inlined, so that the operands are not written to memory first.
+#[inline(always)]
 pub(crate) fn join_logic(
     tree: &[u8],
     arena: &mut [u8],
@@ -94,6 +95,8 @@ pub(crate) fn join_logic(
     join_or(arena, k, e, dest, left);
 }
 
+// Behind the sides of the And or Or e. Inlined, as join_logic is.
+#[inline(always)]
 pub(crate) fn end_logic(
     arena: &mut [u8],
     k: &mut [usize],
@@ -124,10 +127,17 @@ pub(crate) fn operand_type(
     ensures by_index_2 { (k : List ℕ) → OperandTyped tree.now text.now scratch.old (at c k) e y result scratch.new }
     ensures types { (k : List ℕ) → CommonTyped (at c k) e tree.now text.now scratch.old result scratch.new }
 {
-    Ok(common_type(tree, text, scratch, c.scope, c.turn, e)?.unwrap_or(y))
+    // By a match, not by `?`: what `?` passes on is copied in pieces that the processor does not forward.
+    match common_type(tree, text, scratch, c.scope, c.turn, e) {
+        Err(x) => Err(x),
+        Ok(Some(q)) => Ok(q),
+        Ok(None) => Ok(y),
+    }
 }
 
-// Any Binary but And and Or, behind its sides: both are fitted to q, then the operator goes into a new variable of type y.
+// Any Binary but And and Or, behind its sides: both are fitted to q, then the operator goes into a new variable of type y. Inlined,
+// as join_logic is.
+#[inline(always)]
 pub(crate) fn finish_binary(
     tree: &[u8],
     arena: &mut [u8],

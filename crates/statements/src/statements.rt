@@ -1,4 +1,5 @@
 // statements.rs: the statements that hold no block, and conditions.
+// An answer is passed on by a match, not by `?`: what `?` passes on is copied in pieces that the processor does not forward.
 ghost use Rattle.std.specs.Prelude.{◌≡◌, false, List, ℕ, ◌<◌, eqb, ltb};
 ghost use Rattle.laws.specs.Fix.{pick};
 ghost use Rattle.records.specs.Words as Words;
@@ -54,11 +55,15 @@ pub(crate) fn convert_cond(
     ensures converts_as { ConvertsAs cond_steps (at c k.old) e tree.now text.now arena.old scratch.old (converted k.new result) arena.new scratch.new }
     ensures types { ConvertsTyped value_types (at c k.old) e tree.now text.now scratch.old (converted k.new result) scratch.new }
 {
-    let y = get_type(tree, text, scratch, c.scope, c.turn, e)?;
-    if y == BOOL_TYPE {
-        return convert_expr(tree, text, arena, scratch, k, c, e);
+    match get_type(tree, text, scratch, c.scope, c.turn, e) {
+        Err(x) => Err(x),
+        Ok(y) => {
+            if y == BOOL_TYPE {
+                return convert_expr(tree, text, arena, scratch, k, c, e);
+            }
+            Err(error_at(ConvertErrorKind::NotBool, e))
+        }
     }
-    Err(error_at(ConvertErrorKind::NotBool, e))
 }
 
 fn zero_float(arena: &mut [u8], k: &mut [usize], v: VarId, short: bool)
@@ -130,10 +135,13 @@ pub(crate) fn convert_declare(
     ensures types { StatesTyped no_types (at c k.old) r tree.now text.now scratch.old (stated k.new result) scratch.new }
 {
     let v = new_var(arena, k, word(tree, r, WORD_C));
-    let taken = error_at(ConvertErrorKind::AlreadyDeclared, r);
-    let next = declare_name(tree, text, scratch, c.scope, r, v, false).ok_or(taken)?;
-    zero_value(tree, arena, k, r, v)?;
-    Ok(next)
+    match declare_name(tree, text, scratch, c.scope, r, v, false) {
+        None => Err(error_at(ConvertErrorKind::AlreadyDeclared, r)),
+        Some(next) => match zero_value(tree, arena, k, r, v) {
+            Err(x) => Err(x),
+            Ok(()) => Ok(next),
+        },
+    }
 }
 
 // The operand, fitted to the variable's type, is copied into it.
@@ -163,12 +171,22 @@ fn assign_to(
     ensures types { StatesTyped assign_types (at c k.old) r tree.now text.now scratch.old (stated k.new result) scratch.new }
 {
     let e = reference(tree, r, WORD_C);
-    let src = convert_expr(tree, text, arena, scratch, k, c, e)?;
-    let y = get_type(tree, text, scratch, c.scope, c.turn, e)?;
-    let expected = v.1 as usize;
-    check_fits(tree, e, y, expected, ConvertErrorKind::WrongAssignType, r)?;
-    copy_fitted(tree, arena, k, v, src);
-    Ok(c.scope)
+    match convert_expr(tree, text, arena, scratch, k, c, e) {
+        Err(x) => Err(x),
+        Ok(src) => match get_type(tree, text, scratch, c.scope, c.turn, e) {
+            Err(x) => Err(x),
+            Ok(y) => {
+                let expected = v.1 as usize;
+                match check_fits(tree, e, y, expected, ConvertErrorKind::WrongAssignType, r) {
+                    Err(x) => Err(x),
+                    Ok(()) => {
+                        copy_fitted(tree, arena, k, v, src);
+                        Ok(c.scope)
+                    }
+                }
+            }
+        },
+    }
 }
 
 fn convert_assign(
@@ -223,10 +241,13 @@ fn declare_init(
 {
     let constant = detail(tree, r) == 1;
     let v = new_var(arena, k, init_type(y) as u32);
-    let taken = error_at(ConvertErrorKind::AlreadyDeclared, r);
-    let next = declare_name(tree, text, scratch, c.scope, r, v, constant).ok_or(taken)?;
-    emit_copy(arena, k, v, src);
-    Ok(next)
+    match declare_name(tree, text, scratch, c.scope, r, v, constant) {
+        None => Err(error_at(ConvertErrorKind::AlreadyDeclared, r)),
+        Some(next) => {
+            emit_copy(arena, k, v, src);
+            Ok(next)
+        }
+    }
 }
 
 // The Init r of a new name.
@@ -246,9 +267,13 @@ fn init_new(
     ensures types { StatesTyped init_types (at c k.old) r tree.now text.now scratch.old (stated k.new result) scratch.new }
 {
     let e = reference(tree, r, WORD_C);
-    let y = get_type(tree, text, scratch, c.scope, c.turn, e)?;
-    let src = convert_expr(tree, text, arena, scratch, k, c, e)?;
-    declare_init(tree, text, arena, scratch, k, c, r, y, src)
+    match get_type(tree, text, scratch, c.scope, c.turn, e) {
+        Err(x) => Err(x),
+        Ok(y) => match convert_expr(tree, text, arena, scratch, k, c, e) {
+            Err(x) => Err(x),
+            Ok(src) => declare_init(tree, text, arena, scratch, k, c, r, y, src),
+        },
+    }
 }
 
 // The Init r: a plain one of a known name assigns.
@@ -295,11 +320,17 @@ fn return_as(
     ensures types { StatesTyped return_as_types (at c k.old) r tree.now text.now scratch.old (stated k.new result) scratch.new }
 {
     let e = reference(tree, r, WORD_A);
-    check_fits(tree, e, y, expected, ConvertErrorKind::WrongReturnType, r)?;
-    let value = convert_expr(tree, text, arena, scratch, k, c, e)?;
-    let fitted = fit_operand(tree, arena, k, value, expected);
-    emit_return(arena, k, fitted);
-    Ok(c.scope)
+    match check_fits(tree, e, y, expected, ConvertErrorKind::WrongReturnType, r) {
+        Err(x) => Err(x),
+        Ok(()) => match convert_expr(tree, text, arena, scratch, k, c, e) {
+            Err(x) => Err(x),
+            Ok(value) => {
+                let fitted = fit_operand(tree, arena, k, value, expected);
+                emit_return(arena, k, fitted);
+                Ok(c.scope)
+            }
+        },
+    }
 }
 
 // The Return r: its type is held against the function's before the value is converted.
@@ -320,11 +351,15 @@ pub(crate) fn convert_return(
 {
     let e = reference(tree, r, WORD_A);
     let expected = reference(tree, c.scope.function as usize, WORD_D);
-    let y = get_type(tree, text, scratch, c.scope, c.turn, e)?;
-    if expected == NONE as usize {
-        return Err(error_at(ConvertErrorKind::ReturnWithoutType, r));
+    match get_type(tree, text, scratch, c.scope, c.turn, e) {
+        Err(x) => Err(x),
+        Ok(y) => {
+            if expected == NONE as usize {
+                return Err(error_at(ConvertErrorKind::ReturnWithoutType, r));
+            }
+            return_as(tree, text, arena, scratch, k, c, r, y, expected)
+        }
     }
-    return_as(tree, text, arena, scratch, k, c, r, y, expected)
 }
 
 // A call of f by the call e, whose result is not used.
@@ -344,10 +379,14 @@ fn call_only(
     ensures call_only_as { CallOnlyAs (given call_only_steps f) (at c k.old) e tree.now text.now arena.old scratch.old (stated k.new result) arena.new scratch.new }
     ensures types { StatesTyped call_only_types (at c k.old) e tree.now text.now scratch.old (stated k.new result) scratch.new }
 {
-    let count = convert_args(tree, text, arena, scratch, k, c, e)?;
-    pass_args(tree, text, arena, scratch, k, c, e, f, count);
-    emit_call_only(arena, k, f as u32);
-    Ok(c.scope)
+    match convert_args(tree, text, arena, scratch, k, c, e) {
+        Err(x) => Err(x),
+        Ok(count) => {
+            pass_args(tree, text, arena, scratch, k, c, e, f, count);
+            emit_call_only(arena, k, f as u32);
+            Ok(c.scope)
+        }
+    }
 }
 
 // The call statement r whose expression e is a call; at a cast the Rust would panic.
@@ -367,9 +406,10 @@ fn call_statement(
     ensures states_as { StatesAs call_statement_steps (at c k.old) r tree.now text.now arena.old scratch.old (stated k.new result) arena.new scratch.new }
     ensures types { StatesTyped own_types (at c k.old) r tree.now text.now scratch.old (stated k.new result) scratch.new }
 {
-    match resolve_call(tree, text, scratch, c.scope, c.turn, e)? {
-        Callee::Cast(_) => Err(error_at(ConvertErrorKind::WouldPanic, r)),
-        Callee::Function(f) => call_only(tree, text, arena, scratch, k, c, e, f),
+    match resolve_call(tree, text, scratch, c.scope, c.turn, e) {
+        Err(x) => Err(x),
+        Ok(Callee::Cast(_)) => Err(error_at(ConvertErrorKind::WouldPanic, r)),
+        Ok(Callee::Function(f)) => call_only(tree, text, arena, scratch, k, c, e, f),
     }
 }
 
@@ -393,8 +433,10 @@ pub(crate) fn convert_call(
     if kind(tree, e) == KIND_CALL {
         return call_statement(tree, text, arena, scratch, k, c, r, e);
     }
-    get_type(tree, text, scratch, c.scope, c.turn, e)?;
-    Ok(c.scope)
+    match get_type(tree, text, scratch, c.scope, c.turn, e) {
+        Err(x) => Err(x),
+        Ok(_) => Ok(c.scope),
+    }
 }
 
 // A jump to the label of this kind of the innermost loop; outside of all loops it is refused.
@@ -413,9 +455,13 @@ fn jump_in_loop(
     requires r_bound { r < 4294967296 }
     ensures { StatesAs (givens loop_jump_steps kind outside) (at c k.old) r tree.now text.now arena.old scratch.now (stated k.new result) arena.new scratch.now }
 {
-    let l = c.scope.in_loop().ok_or(error_at(outside, r))?;
-    jump(arena, k, kind, l as usize);
-    Ok(c.scope)
+    match c.scope.in_loop() {
+        None => Err(error_at(outside, r)),
+        Some(l) => {
+            jump(arena, k, kind, l as usize);
+            Ok(c.scope)
+        }
+    }
 }
 
 // The Break r goes to the end of the innermost loop.

@@ -3,7 +3,6 @@
 use mathlib.Core.Path.{ap, ◌∙◌}
 use native.Mathlib.Omega.{arith}
 use Rattle.std.specs.Prelude.{Ok}
-use Rattle.std.proofs.lemmas.Result.{err_from_is_err_and}
 use Rattle.expressions.proofs.CallLaws.{is_called, typed-refused, typed-cast, typed-function}
 use Rattle.expressions.proofs.calls.resolve_typed.Goals as goal
 
@@ -13,12 +12,11 @@ cast_type-requires c = is_called _ _ _ _ _ c.call_of-call.ensures c.requires.key
 pub resolve_function-requires : goal.resolve_function-requires
 resolve_function-requires c = record { keyed = c.requires.keyed; called = is_called _ _ _ _ _ c.call_of-call.ensures c.requires.keyed c.requires.kind c.requires.args_typed (λ i. omega (arith, c.shared_slice_known-1.given i)) }
 
-pub returns-in_err-y : goal.returns-in_err-y
-returns-in_err-y c = let p = err_from_is_err_and c.from_residual.result c.from_residual.ensures.1 in
-    rw (p.1, p.2) (typed-refused _ _ _ _ c.call_of-call.result c.call_of-call.ensures _ c.cast_type.ensures _ c.in_err-y.was)
+pub returns-in-Err : goal.returns-in-Err
+returns-in-Err c = typed-refused _ _ _ _ c.call_of-call.result c.call_of-call.ensures _ c.cast_type.ensures _ c.in-Err.is
 
-pub returns-in-Some : goal.returns-in-Some
-returns-in-Some c = typed-cast _ _ _ _ c.call_of-call.result c.call_of-call.ensures _ c.cast_type.ensures _ (c.in_ok-y.was ∙ ap Ok c.in-Some.is)
+pub returns-in-Ok-Some : goal.returns-in-Ok-Some
+returns-in-Ok-Some c = typed-cast _ _ _ _ c.call_of-call.result c.call_of-call.ensures _ c.cast_type.ensures _ (c.in-Ok-Some.is ∙ ap Ok c.in-Ok-Some.field-0-is)
 
-pub returns : goal.returns
-returns c = typed-function _ _ _ _ c.call_of-call.result c.call_of-call.ensures _ c.cast_type.ensures (c.in_ok-y.was ∙ ap Ok c.in_default.is) _ c.resolve_function.ensures
+pub returns-in-Ok-None : goal.returns-in-Ok-None
+returns-in-Ok-None c = typed-function _ _ _ _ c.call_of-call.result c.call_of-call.ensures _ c.cast_type.ensures (c.in-Ok-None.is ∙ ap Ok c.in-Ok-None.field-0-is) _ c.resolve_function.ensures

@@ -49,34 +49,33 @@ work_out-get_type-requires t c = let h = operand-expr _ _ c.requires.typing.read
     (omega (arith, h.0, c.decreases), (c.requires.typing, h.1))
 
 pub work_out-unary_type-a-requires : goal.work_out-unary_type-a-requires
-work_out-unary_type-a-requires t c = record { good = c.requires.typing.ready.keyed.good; kind = is-kind _ _ c.requires.typing.ready.keyed.good _ _ c.requires.expr.0 c.kind-k.ensures 9 c.if-k-eq-KIND_UNARY.true; type_at = is-typed _ _ _ c.get_type.ensures.typed c.in_ok-ty.was }
+work_out-unary_type-a-requires t c = record { good = c.requires.typing.ready.keyed.good; kind = is-kind _ _ c.requires.typing.ready.keyed.good _ _ c.requires.expr.0 c.kind-k.ensures 9 c.if-k-eq-KIND_UNARY.true; type_at = is-typed _ _ _ c.get_type.ensures.typed c.in-Ok.is }
 
 pub work_out-keep-requires : goal.work_out-keep-requires
-work_out-keep-requires t c = keep_ready _ _ c.requires.typing.ready.keyed.good _ c.requires.expr.0 _ _ _ c.requires.typing c.requires.expr.1 _ _ _ (unary-next _ _ c.requires.typing.ready.keyed.good _ _ c.requires.expr.0 c.kind-k.ensures _ _ _ c.if-k-eq-KIND_UNARY.true _ c.reference-left.ensures _ _ c.get_type.ensures _ c.in_ok-ty.was _ c.unary_type-a.ensures)
+work_out-keep-requires t c = keep_ready _ _ c.requires.typing.ready.keyed.good _ c.requires.expr.0 _ _ _ c.requires.typing c.requires.expr.1 _ _ _ (unary-next _ _ c.requires.typing.ready.keyed.good _ _ c.requires.expr.0 c.kind-k.ensures _ _ _ c.if-k-eq-KIND_UNARY.true _ c.reference-left.ensures _ _ c.get_type.ensures _ c.in-Ok.is _ c.unary_type-a.ensures)
 
-pub work_out-returns-in_err-ty : goal.work_out-returns-in_err-ty
-work_out-returns-in_err-ty t c = let p = err_from_is_err_and c.from_residual.result c.from_residual.ensures.1 in
-    rw (p.1, p.2) (unary-stop _ _ c.requires.typing.ready.keyed.good _ _ c.requires.expr.0 c.kind-k.ensures _ _ _ c.if-k-eq-KIND_UNARY.true _ c.reference-left.ensures _ _ c.get_type.ensures _ c.in_err-ty.was)
+pub work_out-returns-in-Err : goal.work_out-returns-in-Err
+work_out-returns-in-Err t c = unary-stop _ _ c.requires.typing.ready.keyed.good _ _ c.requires.expr.0 c.kind-k.ensures _ _ _ c.if-k-eq-KIND_UNARY.true _ c.reference-left.ensures _ _ c.get_type.ensures _ c.in-Err.is
 
-pub work_out-returns-then-k-eq-KIND_UNARY : goal.work_out-returns-then-k-eq-KIND_UNARY
-work_out-returns-then-k-eq-KIND_UNARY t c = keep_meets _ _ c.requires.typing.ready.keyed.good _ c.requires.expr.0 _ _ _ c.requires.typing c.requires.expr.1 _ _ _ (unary-next _ _ c.requires.typing.ready.keyed.good _ _ c.requires.expr.0 c.kind-k.ensures _ _ _ c.if-k-eq-KIND_UNARY.true _ c.reference-left.ensures _ _ c.get_type.ensures _ c.in_ok-ty.was _ c.unary_type-a.ensures) c.ranges.turn.fits _ _ c.keep.ensures
+pub work_out-returns-in-Ok : goal.work_out-returns-in-Ok
+work_out-returns-in-Ok t c = keep_meets _ _ c.requires.typing.ready.keyed.good _ c.requires.expr.0 _ _ _ c.requires.typing c.requires.expr.1 _ _ _ (unary-next _ _ c.requires.typing.ready.keyed.good _ _ c.requires.expr.0 c.kind-k.ensures _ _ _ c.if-k-eq-KIND_UNARY.true _ c.reference-left.ensures _ _ c.get_type.ensures _ c.in-Ok.is _ c.unary_type-a.ensures) c.ranges.turn.fits _ _ c.keep.ensures
 
 pub work_out-get_type-requires-then-k-eq-KIND_BINARY : goal.work_out-get_type-requires-then-k-eq-KIND_BINARY
 work_out-get_type-requires-then-k-eq-KIND_BINARY t c = let h = left-expr _ _ c.requires.typing.ready.keyed.good _ _ c.requires.expr.0 c.kind-k.ensures c.if-k-eq-KIND_BINARY.true _ c.reference-left.ensures in
     (omega (arith, h.0, c.decreases), (c.requires.typing, h.1))
 
-pub work_out-get_type-requires-then-k-eq-KIND_BINARY-2 : goal.work_out-get_type-requires-then-k-eq-KIND_BINARY-2
-work_out-get_type-requires-then-k-eq-KIND_BINARY-2 t c = let h = right-expr _ _ c.requires.typing.ready.keyed.good _ _ c.requires.expr.0 c.kind-k.ensures c.if-k-eq-KIND_BINARY.true _ c.reference-right.ensures in
-    (omega (arith, h.0, c.decreases), (typing_next _ _ _ _ _ c.requires.typing _ c.get_type-then-k-eq-KIND_BINARY.ensures.frame _ (c.get_type-then-k-eq-KIND_BINARY.ensures.adds _ c.in_ok-l.was), h.1))
+pub work_out-get_type-requires-in-Ok-get_type : goal.work_out-get_type-requires-in-Ok-get_type
+work_out-get_type-requires-in-Ok-get_type t c = let h = right-expr _ _ c.requires.typing.ready.keyed.good _ _ c.requires.expr.0 c.kind-k.ensures c.if-k-eq-KIND_BINARY.true _ c.reference-right.ensures in
+    (omega (arith, h.0, c.decreases), (typing_next _ _ _ _ _ c.requires.typing _ c.get_type-then-k-eq-KIND_BINARY.ensures.frame _ (c.get_type-then-k-eq-KIND_BINARY.ensures.adds _ c.in-Ok-get_type.is), h.1))
 
 pub work_out-common_of-common-requires : goal.work_out-common_of-common-requires
 work_out-common_of-common-requires t c = record {
   good = c.requires.typing.ready.keyed.good;
   operands = operands-are _ _ _ _ _ _ refl
       (left-expr _ _ c.requires.typing.ready.keyed.good _ _ c.requires.expr.0 c.kind-k.ensures c.if-k-eq-KIND_BINARY.true _ c.reference-left.ensures).1
-      (is-typed _ _ _ c.get_type-then-k-eq-KIND_BINARY.ensures.typed c.in_ok-l.was)
+      (is-typed _ _ _ c.get_type-then-k-eq-KIND_BINARY.ensures.typed c.in-Ok-get_type.is)
       (right-expr _ _ c.requires.typing.ready.keyed.good _ _ c.requires.expr.0 c.kind-k.ensures c.if-k-eq-KIND_BINARY.true _ c.reference-right.ensures).1
-      (is-typed _ _ _ c.get_type-then-k-eq-KIND_BINARY-2.ensures.typed c.in_ok-r.was);
+      (is-typed _ _ _ c.get_type-in-Ok-get_type.ensures.typed c.in-Ok-get_type-2.is);
 }
 
 pub work_out-binary_type-a-requires : goal.work_out-binary_type-a-requires
@@ -84,26 +83,24 @@ work_out-binary_type-a-requires t c = record {
   good = c.requires.typing.ready.keyed.good;
   operands = operands-are _ _ _ _ _ _ refl
       (left-expr _ _ c.requires.typing.ready.keyed.good _ _ c.requires.expr.0 c.kind-k.ensures c.if-k-eq-KIND_BINARY.true _ c.reference-left.ensures).1
-      (is-typed _ _ _ c.get_type-then-k-eq-KIND_BINARY.ensures.typed c.in_ok-l.was)
+      (is-typed _ _ _ c.get_type-then-k-eq-KIND_BINARY.ensures.typed c.in-Ok-get_type.is)
       (right-expr _ _ c.requires.typing.ready.keyed.good _ _ c.requires.expr.0 c.kind-k.ensures c.if-k-eq-KIND_BINARY.true _ c.reference-right.ensures).1
-      (is-typed _ _ _ c.get_type-then-k-eq-KIND_BINARY-2.ensures.typed c.in_ok-r.was);
+      (is-typed _ _ _ c.get_type-in-Ok-get_type.ensures.typed c.in-Ok-get_type-2.is);
   kind = is-kind _ _ c.requires.typing.ready.keyed.good _ _ c.requires.expr.0 c.kind-k.ensures 10 c.if-k-eq-KIND_BINARY.true;
   found_is = c.common_of-common.ensures;
 }
 
-pub work_out-keep-requires-then-k-eq-KIND_BINARY : goal.work_out-keep-requires-then-k-eq-KIND_BINARY
-work_out-keep-requires-then-k-eq-KIND_BINARY t c = keep_ready _ _ c.requires.typing.ready.keyed.good _ c.requires.expr.0 _ _ _ c.requires.typing c.requires.expr.1 _ _ _ (right_next_lem _ _ c.requires.typing.ready.keyed.good _ _ c.requires.expr.0 c.kind-k.ensures _ _ _ c.if-k-eq-KIND_BINARY.true _ c.reference-left.ensures _ _ c.get_type-then-k-eq-KIND_BINARY.ensures c.requires.typing _ c.in_ok-l.was _ c.reference-right.ensures _ _ c.get_type-then-k-eq-KIND_BINARY-2.ensures _ c.in_ok-r.was _ refl _ c.binary_type-a.ensures _ c.common_of-common.ensures _ c.unwrap_or.ensures)
+pub work_out-keep-requires-in-Ok-get_type-2 : goal.work_out-keep-requires-in-Ok-get_type-2
+work_out-keep-requires-in-Ok-get_type-2 t c = keep_ready _ _ c.requires.typing.ready.keyed.good _ c.requires.expr.0 _ _ _ c.requires.typing c.requires.expr.1 _ _ _ (right_next_lem _ _ c.requires.typing.ready.keyed.good _ _ c.requires.expr.0 c.kind-k.ensures _ _ _ c.if-k-eq-KIND_BINARY.true _ c.reference-left.ensures _ _ c.get_type-then-k-eq-KIND_BINARY.ensures c.requires.typing _ c.in-Ok-get_type.is _ c.reference-right.ensures _ _ c.get_type-in-Ok-get_type.ensures _ c.in-Ok-get_type-2.is _ refl _ c.binary_type-a.ensures _ c.common_of-common.ensures _ c.unwrap_or.ensures)
 
-pub work_out-returns-in_err-l : goal.work_out-returns-in_err-l
-work_out-returns-in_err-l t c = let p = err_from_is_err_and c.from_residual-in_err-l.result c.from_residual-in_err-l.ensures.1 in
-    rw (p.1, p.2) (left-stop _ _ c.requires.typing.ready.keyed.good _ _ c.requires.expr.0 c.kind-k.ensures _ _ _ c.if-k-eq-KIND_BINARY.true _ c.reference-left.ensures _ _ c.get_type-then-k-eq-KIND_BINARY.ensures _ c.in_err-l.was)
+pub work_out-returns-in-Err-get_type : goal.work_out-returns-in-Err-get_type
+work_out-returns-in-Err-get_type t c = left-stop _ _ c.requires.typing.ready.keyed.good _ _ c.requires.expr.0 c.kind-k.ensures _ _ _ c.if-k-eq-KIND_BINARY.true _ c.reference-left.ensures _ _ c.get_type-then-k-eq-KIND_BINARY.ensures _ c.in-Err-get_type.is
 
-pub work_out-returns-in_err-r : goal.work_out-returns-in_err-r
-work_out-returns-in_err-r t c = let p = err_from_is_err_and c.from_residual-in_err-r.result c.from_residual-in_err-r.ensures.1 in
-    rw (p.1, p.2) (right-stop _ _ c.requires.typing.ready.keyed.good _ _ c.requires.expr.0 c.kind-k.ensures _ _ _ c.if-k-eq-KIND_BINARY.true _ c.reference-left.ensures _ _ c.get_type-then-k-eq-KIND_BINARY.ensures c.requires.typing _ c.in_ok-l.was _ c.reference-right.ensures _ _ c.get_type-then-k-eq-KIND_BINARY-2.ensures _ c.in_err-r.was)
+pub work_out-returns-in-Err-get_type-2 : goal.work_out-returns-in-Err-get_type-2
+work_out-returns-in-Err-get_type-2 t c = right-stop _ _ c.requires.typing.ready.keyed.good _ _ c.requires.expr.0 c.kind-k.ensures _ _ _ c.if-k-eq-KIND_BINARY.true _ c.reference-left.ensures _ _ c.get_type-then-k-eq-KIND_BINARY.ensures c.requires.typing _ c.in-Ok-get_type.is _ c.reference-right.ensures _ _ c.get_type-in-Ok-get_type.ensures _ c.in-Err-get_type-2.is
 
-pub work_out-returns-then-k-eq-KIND_BINARY : goal.work_out-returns-then-k-eq-KIND_BINARY
-work_out-returns-then-k-eq-KIND_BINARY t c = keep_meets _ _ c.requires.typing.ready.keyed.good _ c.requires.expr.0 _ _ _ c.requires.typing c.requires.expr.1 _ _ _ (right_next_lem _ _ c.requires.typing.ready.keyed.good _ _ c.requires.expr.0 c.kind-k.ensures _ _ _ c.if-k-eq-KIND_BINARY.true _ c.reference-left.ensures _ _ c.get_type-then-k-eq-KIND_BINARY.ensures c.requires.typing _ c.in_ok-l.was _ c.reference-right.ensures _ _ c.get_type-then-k-eq-KIND_BINARY-2.ensures _ c.in_ok-r.was _ refl _ c.binary_type-a.ensures _ c.common_of-common.ensures _ c.unwrap_or.ensures) c.ranges.turn.fits _ _ c.keep-then-k-eq-KIND_BINARY.ensures
+pub work_out-returns-in-Ok-get_type-2 : goal.work_out-returns-in-Ok-get_type-2
+work_out-returns-in-Ok-get_type-2 t c = keep_meets _ _ c.requires.typing.ready.keyed.good _ c.requires.expr.0 _ _ _ c.requires.typing c.requires.expr.1 _ _ _ (right_next_lem _ _ c.requires.typing.ready.keyed.good _ _ c.requires.expr.0 c.kind-k.ensures _ _ _ c.if-k-eq-KIND_BINARY.true _ c.reference-left.ensures _ _ c.get_type-then-k-eq-KIND_BINARY.ensures c.requires.typing _ c.in-Ok-get_type.is _ c.reference-right.ensures _ _ c.get_type-in-Ok-get_type.ensures _ c.in-Ok-get_type-2.is _ refl _ c.binary_type-a.ensures _ c.common_of-common.ensures _ c.unwrap_or.ensures) c.ranges.turn.fits _ _ c.keep-in-Ok-get_type-2.ensures
 
 pub work_out-keep-requires-then-k-eq-KIND_CALL : goal.work_out-keep-requires-then-k-eq-KIND_CALL
 work_out-keep-requires-then-k-eq-KIND_CALL t c = keep_ready _ _ c.requires.typing.ready.keyed.good _ c.requires.expr.0 _ _ _ c.requires.typing c.requires.expr.1 _ _ _ (call_value_lem _ _ c.requires.typing.ready.keyed.good _ _ c.requires.expr.0 c.kind-k.ensures _ _ _ c.if-k-eq-KIND_CALL.true _ _ c.find_callee-callee.ensures _ c.value_type-a.ensures _ c.callee_record.ensures)

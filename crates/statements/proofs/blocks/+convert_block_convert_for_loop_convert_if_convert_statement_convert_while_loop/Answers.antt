@@ -35,8 +35,8 @@ convert_block-reference-r-requires t c = record { record_bytes_in_bounds = omega
 pub convert_block-convert_statement-requires : goal.convert_block-convert_statement-requires
 convert_block-convert_statement-requires t c = let h = turn_statement c.requires.converting.0 c.requires.converting.1 c.requires.body_at c.loop-cell.invariant.0 c.loop-cell-test.true c.reference-r.ensures in (omega (arith, h.0, c.decreases), ((c.loop-cell.invariant.0.converting, turn_afforded c.requires.converting.0 c.requires.converting.1 c.requires.body_at c.loop-cell.invariant.0 c.loop-cell-test.true c.reference-r.ensures), (h.1, c.loop-cell.invariant.0.visited.turns)))
 
-pub convert_block-returns-in_err-at : goal.convert_block-returns-in_err-at
-convert_block-returns-in_err-at t c = let p = err_from_is_err_and c.from_residual.result c.from_residual.ensures.1 in rw (p.1, p.2) (record { block_as = turn-stop c.requires.converting.0 c.requires.converting.1 c.requires.body_at c.loop-cell.invariant.0 c.loop-cell-test.true c.reference-r.ensures c.convert_statement.ensures.statement_as (ap (stated _) c.in_err-at.was); visits = λ k q. refused-finished k q })
+pub convert_block-returns-in-Err : goal.convert_block-returns-in-Err
+convert_block-returns-in-Err t c = record { block_as = turn-stop c.requires.converting.0 c.requires.converting.1 c.requires.body_at c.loop-cell.invariant.0 c.loop-cell-test.true c.reference-r.ensures c.convert_statement.ensures.statement_as (ap (stated _) c.in-Err.is); visits = λ k q. refused-finished k q }
 
 pub convert_block-next_cell-cell-requires : goal.convert_block-next_cell-cell-requires
 convert_block-next_cell-cell-requires t c = cell-low c.requires.converting.0 c.requires.converting.1 c.requires.body_at c.loop-cell.invariant.0 c.loop-cell-test.true
@@ -45,25 +45,25 @@ pub convert_block-loop-cell-smaller : goal.convert_block-loop-cell-smaller
 convert_block-loop-cell-smaller t c = block_less c.requires.converting.0 c.requires.converting.1 c.requires.body_at c.loop-cell.invariant.0 c.loop-cell-test.true _ c.next_cell-cell.ensures
 
 pub convert_block-loop-cell-preserved : goal.convert_block-loop-cell-preserved
-convert_block-loop-cell-preserved t c = (turn-next c.requires.converting.0 c.requires.converting.1 c.requires.body_at c.loop-cell.invariant.0 c.loop-cell-test.true c.reference-r.ensures c.convert_statement.ensures.statement_as (ap (stated _) c.in_ok-at.was) c.convert_statement.ensures.visits _ c.next_cell-cell.ensures, omega (arith, c.loop-cell.invariant.1, c.k-1.given))
+convert_block-loop-cell-preserved t c = (turn-next c.requires.converting.0 c.requires.converting.1 c.requires.body_at c.loop-cell.invariant.0 c.loop-cell-test.true c.reference-r.ensures c.convert_statement.ensures.statement_as (ap (stated _) c.in-Ok.is) c.convert_statement.ensures.visits _ c.next_cell-cell.ensures, omega (arith, c.loop-cell.invariant.1, c.k-1.given))
 
 pub convert_block-returns : goal.convert_block-returns
 convert_block-returns t c = record { block_as = block_done c.requires.converting.0 c.requires.converting.1 c.requires.body_at c.loop-cell.invariant.0 c.loop-cell-test.false; visits = block_visited c.requires.converting.0 c.requires.converting.1 c.requires.body_at c.loop-cell.invariant.0 c.loop-cell-test.false }
 
 pub convert_for_loop-convert_block-requires : goal.convert_for_loop-convert_block-requires
-convert_for_loop-convert_block-requires t c = let h = for_list c.requires.converting.0 c.requires.converting.1 c.requires.kind c.reference-body.ensures in (omega (arith, h.0, c.decreases), ((for_converting c.requires.converting.0 c.requires.converting.1 c.requires.kind c.for_head.ensures.for_head_as (ap (stated _) c.in_ok-scope.was) c.with_loop.ensures c.reference-body.ensures, for_afforded c.requires.converting.0 c.requires.converting.1 c.requires.kind c.for_head.ensures.for_head_as (ap (stated _) c.in_ok-scope.was) c.with_loop.ensures c.reference-body.ensures), (h.1, (for_head-visited c.requires.converting.0 c.requires.kind c.requires.fresh c.for_head.ensures.for_head_as (ap (stated _) c.in_ok-scope.was) c.for_head.ensures.types).turns)))
+convert_for_loop-convert_block-requires t c = let h = for_list c.requires.converting.0 c.requires.converting.1 c.requires.kind c.reference-body.ensures in (omega (arith, h.0, c.decreases), ((for_converting c.requires.converting.0 c.requires.converting.1 c.requires.kind c.for_head.ensures.for_head_as (ap (stated _) c.in-Ok.is) c.with_loop.ensures c.reference-body.ensures, for_afforded c.requires.converting.0 c.requires.converting.1 c.requires.kind c.for_head.ensures.for_head_as (ap (stated _) c.in-Ok.is) c.with_loop.ensures c.reference-body.ensures), (h.1, (for_head-visited c.requires.converting.0 c.requires.kind c.requires.fresh c.for_head.ensures.for_head_as (ap (stated _) c.in-Ok.is) c.for_head.ensures.types).turns)))
 
 pub convert_for_loop-loop_end-requires : goal.convert_for_loop-loop_end-requires
-convert_for_loop-loop_end-requires t c = for_room c.requires.converting.0 c.requires.converting.1 c.requires.kind c.for_head.ensures.for_head_as (ap (stated _) c.in_ok-scope.was) c.with_loop.ensures c.reference-body.ensures c.convert_block.ensures.block_as (ap (finished_with _) c.in_ok-convert_block.was)
+convert_for_loop-loop_end-requires t c = for_room c.requires.converting.0 c.requires.converting.1 c.requires.kind c.for_head.ensures.for_head_as (ap (stated _) c.in-Ok.is) c.with_loop.ensures c.reference-body.ensures c.convert_block.ensures.block_as (ap (finished_with _) c.in_ok-convert_block-in-Ok.was)
 
-pub convert_for_loop-returns-in_err-scope : goal.convert_for_loop-returns-in_err-scope
-convert_for_loop-returns-in_err-scope t c = let p = err_from_is_err_and c.from_residual.result c.from_residual.ensures.1 in rw (p.1, p.2) (record { finishes_as = for_stop c.requires.converting.0 c.requires.converting.1 c.requires.kind c.for_head.ensures.for_head_as (ap (stated _) c.in_err-scope.was); visits = λ k q. refused-finished k q })
+pub convert_for_loop-returns-in-Err : goal.convert_for_loop-returns-in-Err
+convert_for_loop-returns-in-Err t c = record { finishes_as = for_stop c.requires.converting.0 c.requires.converting.1 c.requires.kind c.for_head.ensures.for_head_as (ap (stated _) c.in-Err.is); visits = λ k q. refused-finished k q }
 
-pub convert_for_loop-returns-in_err-convert_block : goal.convert_for_loop-returns-in_err-convert_block
-convert_for_loop-returns-in_err-convert_block t c = let p = err_from_is_err_and c.from_residual-in_err-convert_block.result c.from_residual-in_err-convert_block.ensures.1 in rw (p.1, p.2) (record { finishes_as = for_body-stop c.requires.converting.0 c.requires.converting.1 c.requires.kind c.for_head.ensures.for_head_as (ap (stated _) c.in_ok-scope.was) c.with_loop.ensures c.reference-body.ensures c.convert_block.ensures.block_as (ap (finished_with _) c.in_err-convert_block.was); visits = λ k q. refused-finished k q })
+pub convert_for_loop-returns-in_err-convert_block-in-Ok : goal.convert_for_loop-returns-in_err-convert_block-in-Ok
+convert_for_loop-returns-in_err-convert_block-in-Ok t c = let p = err_from_is_err_and c.from_residual.result c.from_residual.ensures.1 in rw (p.1, p.2) (record { finishes_as = for_body-stop c.requires.converting.0 c.requires.converting.1 c.requires.kind c.for_head.ensures.for_head_as (ap (stated _) c.in-Ok.is) c.with_loop.ensures c.reference-body.ensures c.convert_block.ensures.block_as (ap (finished_with _) c.in_err-convert_block-in-Ok.was); visits = λ k q. refused-finished k q })
 
-pub convert_for_loop-returns : goal.convert_for_loop-returns
-convert_for_loop-returns t c = record { finishes_as = for_next c.requires.converting.0 c.requires.converting.1 c.requires.kind c.for_head.ensures.for_head_as (ap (stated _) c.in_ok-scope.was) c.with_loop.ensures c.reference-body.ensures c.convert_block.ensures.block_as (ap (finished_with _) c.in_ok-convert_block.was) c.loop_end.ensures; visits = for_visited c.requires.converting.0 c.requires.kind c.requires.fresh c.for_head.ensures.for_head_as (ap (stated _) c.in_ok-scope.was) c.for_head.ensures.types refl c.reference-body.ensures c.convert_block.ensures.visits (ap (finished_with _) c.in_ok-convert_block.was) c.loop_end.ensures }
+pub convert_for_loop-returns-in_ok-convert_block-in-Ok : goal.convert_for_loop-returns-in_ok-convert_block-in-Ok
+convert_for_loop-returns-in_ok-convert_block-in-Ok t c = record { finishes_as = for_next c.requires.converting.0 c.requires.converting.1 c.requires.kind c.for_head.ensures.for_head_as (ap (stated _) c.in-Ok.is) c.with_loop.ensures c.reference-body.ensures c.convert_block.ensures.block_as (ap (finished_with _) c.in_ok-convert_block-in-Ok.was) c.loop_end.ensures; visits = for_visited c.requires.converting.0 c.requires.kind c.requires.fresh c.for_head.ensures.for_head_as (ap (stated _) c.in-Ok.is) c.for_head.ensures.types refl c.reference-body.ensures c.convert_block.ensures.visits (ap (finished_with _) c.in_ok-convert_block-in-Ok.was) c.loop_end.ensures }
 
 pub convert_if-convert_block-requires : goal.convert_if-convert_block-requires
 convert_if-convert_block-requires t c = let h = then_list c.requires.converting.0 c.requires.converting.1 c.requires.kind c.reference-then.ensures in (omega (arith, h.0, c.decreases), ((finished_converting c.if_head.ensures.head_as (ap (finished_with _) c.in_ok-if_head.was) c.requires.converting.0, then_afforded c.requires.converting.0 c.requires.converting.1 c.requires.kind c.if_head.ensures.head_as (ap (finished_with _) c.in_ok-if_head.was) c.reference-then.ensures), (h.1, (head_visited c.requires.converting.0 c.requires.kind c.requires.fresh c.if_head.ensures.head_as (ap (finished_with _) c.in_ok-if_head.was) c.if_head.ensures.types).turns)))
@@ -121,37 +121,37 @@ pub convert_statement-convert_if-requires : goal.convert_statement-convert_if-re
 unfolding counted
 convert_statement-convert_if-requires t c = (omega (arith, c.decreases), ((comment_converting c.requires.converting.0 c.requires.converting.1 c.requires.statement (omega arith) c.emit_comment.ensures, comment_afforded c.requires.converting.0 c.requires.converting.1 c.requires.statement (omega arith) c.emit_comment.ensures), (record { below = c.requires.statement.below; kind = sym c.kind.ensures ∙ c.in-19.is }, comment_fresh c.requires.converting.0 c.requires.converting.1 c.requires.statement c.requires.turns c.emit_comment.ensures)))
 
-pub convert_statement-returns-in_ok-convert_if-in-19 : goal.convert_statement-returns-in_ok-convert_if-in-19
+pub convert_statement-returns-in-Ok : goal.convert_statement-returns-in-Ok
 unfolding counted
-convert_statement-returns-in_ok-convert_if-in-19 t c = record { statement_as = commented_if c.requires.converting.0 c.requires.converting.1 c.requires.statement (omega arith) c.emit_comment.ensures c.kind.ensures (done-stated c.convert_if.new.k c.args.c.scope c.in_ok-convert_if-in-19.was) c.in-19.is c.convert_if.ensures.finishes_as; visits = stated-visited _ _ _ _ (done-stated c.convert_if.new.k c.args.c.scope c.in_ok-convert_if-in-19.was) c.convert_if.ensures.visits }
+convert_statement-returns-in-Ok t c = record { statement_as = commented_if c.requires.converting.0 c.requires.converting.1 c.requires.statement (omega arith) c.emit_comment.ensures c.kind.ensures (done-stated c.convert_if.new.k c.args.c.scope c.in-Ok.is) c.in-19.is c.convert_if.ensures.finishes_as; visits = stated-visited _ _ _ _ (done-stated c.convert_if.new.k c.args.c.scope c.in-Ok.is) c.convert_if.ensures.visits }
 
-pub convert_statement-returns-in_err-convert_if-in-19 : goal.convert_statement-returns-in_err-convert_if-in-19
+pub convert_statement-returns-in-Err : goal.convert_statement-returns-in-Err
 unfolding counted
-convert_statement-returns-in_err-convert_if-in-19 t c = let p = err_from_is_err_and c.from_residual.result c.from_residual.ensures.1 in rw (p.1, p.2) (record { statement_as = commented_if c.requires.converting.0 c.requires.converting.1 c.requires.statement (omega arith) c.emit_comment.ensures c.kind.ensures (stop-stated c.convert_if.new.k c.args.c.scope c.in_err-convert_if-in-19.was) c.in-19.is c.convert_if.ensures.finishes_as; visits = stated-visited _ _ _ _ (stop-stated c.convert_if.new.k c.args.c.scope c.in_err-convert_if-in-19.was) c.convert_if.ensures.visits })
+convert_statement-returns-in-Err t c = record { statement_as = commented_if c.requires.converting.0 c.requires.converting.1 c.requires.statement (omega arith) c.emit_comment.ensures c.kind.ensures (stop-stated c.convert_if.new.k c.args.c.scope c.in-Err.is) c.in-19.is c.convert_if.ensures.finishes_as; visits = stated-visited _ _ _ _ (stop-stated c.convert_if.new.k c.args.c.scope c.in-Err.is) c.convert_if.ensures.visits }
 
 pub convert_statement-convert_while_loop-requires : goal.convert_statement-convert_while_loop-requires
 unfolding counted
 convert_statement-convert_while_loop-requires t c = (omega (arith, c.decreases), ((comment_converting c.requires.converting.0 c.requires.converting.1 c.requires.statement (omega arith) c.emit_comment.ensures, comment_afforded c.requires.converting.0 c.requires.converting.1 c.requires.statement (omega arith) c.emit_comment.ensures), (record { below = c.requires.statement.below; kind = sym c.kind.ensures ∙ c.in-20.is }, comment_fresh c.requires.converting.0 c.requires.converting.1 c.requires.statement c.requires.turns c.emit_comment.ensures)))
 
-pub convert_statement-returns-in_ok-convert_while_loop-in-20 : goal.convert_statement-returns-in_ok-convert_while_loop-in-20
+pub convert_statement-returns-in-Ok-convert_while_loop : goal.convert_statement-returns-in-Ok-convert_while_loop
 unfolding counted
-convert_statement-returns-in_ok-convert_while_loop-in-20 t c = record { statement_as = commented_while c.requires.converting.0 c.requires.converting.1 c.requires.statement (omega arith) c.emit_comment.ensures c.kind.ensures (done-stated c.convert_while_loop.new.k c.args.c.scope c.in_ok-convert_while_loop-in-20.was) c.in-20.is c.convert_while_loop.ensures.finishes_as; visits = stated-visited _ _ _ _ (done-stated c.convert_while_loop.new.k c.args.c.scope c.in_ok-convert_while_loop-in-20.was) c.convert_while_loop.ensures.visits }
+convert_statement-returns-in-Ok-convert_while_loop t c = record { statement_as = commented_while c.requires.converting.0 c.requires.converting.1 c.requires.statement (omega arith) c.emit_comment.ensures c.kind.ensures (done-stated c.convert_while_loop.new.k c.args.c.scope c.in-Ok-convert_while_loop.is) c.in-20.is c.convert_while_loop.ensures.finishes_as; visits = stated-visited _ _ _ _ (done-stated c.convert_while_loop.new.k c.args.c.scope c.in-Ok-convert_while_loop.is) c.convert_while_loop.ensures.visits }
 
-pub convert_statement-returns-in_err-convert_while_loop-in-20 : goal.convert_statement-returns-in_err-convert_while_loop-in-20
+pub convert_statement-returns-in-Err-convert_while_loop : goal.convert_statement-returns-in-Err-convert_while_loop
 unfolding counted
-convert_statement-returns-in_err-convert_while_loop-in-20 t c = let p = err_from_is_err_and c.from_residual-in_err-convert_while_loop-in-20.result c.from_residual-in_err-convert_while_loop-in-20.ensures.1 in rw (p.1, p.2) (record { statement_as = commented_while c.requires.converting.0 c.requires.converting.1 c.requires.statement (omega arith) c.emit_comment.ensures c.kind.ensures (stop-stated c.convert_while_loop.new.k c.args.c.scope c.in_err-convert_while_loop-in-20.was) c.in-20.is c.convert_while_loop.ensures.finishes_as; visits = stated-visited _ _ _ _ (stop-stated c.convert_while_loop.new.k c.args.c.scope c.in_err-convert_while_loop-in-20.was) c.convert_while_loop.ensures.visits })
+convert_statement-returns-in-Err-convert_while_loop t c = record { statement_as = commented_while c.requires.converting.0 c.requires.converting.1 c.requires.statement (omega arith) c.emit_comment.ensures c.kind.ensures (stop-stated c.convert_while_loop.new.k c.args.c.scope c.in-Err-convert_while_loop.is) c.in-20.is c.convert_while_loop.ensures.finishes_as; visits = stated-visited _ _ _ _ (stop-stated c.convert_while_loop.new.k c.args.c.scope c.in-Err-convert_while_loop.is) c.convert_while_loop.ensures.visits }
 
 pub convert_statement-convert_for_loop-requires : goal.convert_statement-convert_for_loop-requires
 unfolding counted
 convert_statement-convert_for_loop-requires t c = (omega (arith, c.decreases), ((comment_converting c.requires.converting.0 c.requires.converting.1 c.requires.statement (omega arith) c.emit_comment.ensures, comment_afforded c.requires.converting.0 c.requires.converting.1 c.requires.statement (omega arith) c.emit_comment.ensures), (record { below = c.requires.statement.below; kind = sym c.kind.ensures ∙ c.in-21.is }, comment_fresh c.requires.converting.0 c.requires.converting.1 c.requires.statement c.requires.turns c.emit_comment.ensures)))
 
-pub convert_statement-returns-in_ok-convert_for_loop-in-21 : goal.convert_statement-returns-in_ok-convert_for_loop-in-21
+pub convert_statement-returns-in-Ok-convert_for_loop : goal.convert_statement-returns-in-Ok-convert_for_loop
 unfolding counted
-convert_statement-returns-in_ok-convert_for_loop-in-21 t c = record { statement_as = commented_for c.requires.converting.0 c.requires.converting.1 c.requires.statement (omega arith) c.emit_comment.ensures c.kind.ensures (done-stated c.convert_for_loop.new.k c.args.c.scope c.in_ok-convert_for_loop-in-21.was) c.in-21.is c.convert_for_loop.ensures.finishes_as; visits = stated-visited _ _ _ _ (done-stated c.convert_for_loop.new.k c.args.c.scope c.in_ok-convert_for_loop-in-21.was) c.convert_for_loop.ensures.visits }
+convert_statement-returns-in-Ok-convert_for_loop t c = record { statement_as = commented_for c.requires.converting.0 c.requires.converting.1 c.requires.statement (omega arith) c.emit_comment.ensures c.kind.ensures (done-stated c.convert_for_loop.new.k c.args.c.scope c.in-Ok-convert_for_loop.is) c.in-21.is c.convert_for_loop.ensures.finishes_as; visits = stated-visited _ _ _ _ (done-stated c.convert_for_loop.new.k c.args.c.scope c.in-Ok-convert_for_loop.is) c.convert_for_loop.ensures.visits }
 
-pub convert_statement-returns-in_err-convert_for_loop-in-21 : goal.convert_statement-returns-in_err-convert_for_loop-in-21
+pub convert_statement-returns-in-Err-convert_for_loop : goal.convert_statement-returns-in-Err-convert_for_loop
 unfolding counted
-convert_statement-returns-in_err-convert_for_loop-in-21 t c = let p = err_from_is_err_and c.from_residual-in_err-convert_for_loop-in-21.result c.from_residual-in_err-convert_for_loop-in-21.ensures.1 in rw (p.1, p.2) (record { statement_as = commented_for c.requires.converting.0 c.requires.converting.1 c.requires.statement (omega arith) c.emit_comment.ensures c.kind.ensures (stop-stated c.convert_for_loop.new.k c.args.c.scope c.in_err-convert_for_loop-in-21.was) c.in-21.is c.convert_for_loop.ensures.finishes_as; visits = stated-visited _ _ _ _ (stop-stated c.convert_for_loop.new.k c.args.c.scope c.in_err-convert_for_loop-in-21.was) c.convert_for_loop.ensures.visits })
+convert_statement-returns-in-Err-convert_for_loop t c = record { statement_as = commented_for c.requires.converting.0 c.requires.converting.1 c.requires.statement (omega arith) c.emit_comment.ensures c.kind.ensures (stop-stated c.convert_for_loop.new.k c.args.c.scope c.in-Err-convert_for_loop.is) c.in-21.is c.convert_for_loop.ensures.finishes_as; visits = stated-visited _ _ _ _ (stop-stated c.convert_for_loop.new.k c.args.c.scope c.in-Err-convert_for_loop.is) c.convert_for_loop.ensures.visits }
 
 pub convert_while_loop-convert_block-requires : goal.convert_while_loop-convert_block-requires
 convert_while_loop-convert_block-requires t c = let h = while_list c.requires.converting.0 c.requires.converting.1 c.requires.kind c.reference-body.ensures in (omega (arith, h.0, c.decreases), ((while_converting c.requires.converting.0 c.requires.converting.1 c.requires.kind c.while_head.ensures.head_as (ap (finished_with _) c.in_ok-while_head.was) c.with_loop.ensures c.reference-body.ensures, while_afforded c.requires.converting.0 c.requires.converting.1 c.requires.kind c.while_head.ensures.head_as (ap (finished_with _) c.in_ok-while_head.was) c.with_loop.ensures c.reference-body.ensures), (h.1, (head_visited c.requires.converting.0 c.requires.kind c.requires.fresh c.while_head.ensures.head_as (ap (finished_with _) c.in_ok-while_head.was) c.while_head.ensures.types).turns)))

@@ -1,6 +1,5 @@
 -- The functions that convert an expression meet their contracts. Their measures are 4e + 3, 4e + 2 for a Binary, 4e + 1 for what it is made of, and 4e for a call's values: a call goes to a lower record, or down this order.
 -- Each need is a law of ExprLaws or of ArgsLaws; the loop's invariant is `ArgsLeft`, its measure the cell's number. Assumes nothing.
-use Rattle.std.proofs.lemmas.Result.{err_from_is_err_and}
 use mathlib.Core.List.{List}
 use Rattle.statements.specs.declared.answers.Converter.{Converter}
 use Rattle.statements.specs.Lent.{at, converted, converted_args}
@@ -14,7 +13,7 @@ use Rattle.statements.proofs.ExprLaws.{typed_converting, typed-stop, typed-unary
 use Rattle.statements.proofs.ArgsLaws.{called_converting, called_afforded, called_stop, args-stop, finish_converting, finish_afforded, called_next, loop_start_lem, loop_end_lem, cell-low, next-less, loop_end-types, turn_in, turn-type, value_low, value_afforded, turn-stop, turn-value}
 use Rattle.statements.proofs.TypedLaws.{refused-types, args-refused-types, leaf_types, typed-in_turn, unary_types_lem, binary_types_lem, call_types_lem, common_in-turn, common_types_lem, operand-types, left-in_turn, sides_types_lem, called_in_turn, called_types}
 use Prim.Native.Nat.{ℕ}
-use Rattle.statements.proofs.exprs.+convert_args_convert_binary_convert_call_value_convert_expr_convert_logic_convert_other_convert_unary.Goals.{convert_args-in-Expr+in_ok-o, convert_args-in_default}
+use Rattle.statements.proofs.exprs.+convert_args_convert_binary_convert_call_value_convert_expr_convert_logic_convert_other_convert_unary.Goals.{convert_args-in-Expr+in-Ok, convert_args-in_default}
 use Rattle.statements.proofs.exprs.+convert_args_convert_binary_convert_call_value_convert_expr_convert_logic_convert_other_convert_unary.Goals as goal
 
 -- what is lent and what goes by value, each for its equal
@@ -27,8 +26,8 @@ convert_args-loop-cell-init t c = (loop_start_lem c.requires.converting.0 c.requ
 pub convert_args-convert_expr-requires : goal.convert_args-convert_expr-requires
 convert_args-convert_expr-requires t c = let h = value_low c.requires.converting.0 c.requires.converting.1 c.requires.kind c.loop-cell.invariant.0 c.loop-cell-test.true c.argument_at.ensures c.in-Expr.is in (omega (arith, h.0, c.decreases), ((c.loop-cell.invariant.0.converting, value_afforded c.requires.converting.0 c.requires.converting.1 c.requires.kind c.loop-cell.invariant.0 c.loop-cell-test.true c.argument_at.ensures c.in-Expr.is), (h.1, turn_in c.requires.converting.0 c.requires.converting.1 c.requires.kind c.loop-cell.invariant.0 c.loop-cell-test.true)))
 
-pub convert_args-returns-in_err-o : goal.convert_args-returns-in_err-o
-convert_args-returns-in_err-o t c = let p = err_from_is_err_and c.from_residual.result c.from_residual.ensures.1 in rw (p.1, p.2) (record { call_args_as = turn-stop c.requires.converting.0 c.requires.converting.1 c.requires.kind c.loop-cell.invariant.0 c.loop-cell-test.true c.argument_at.ensures c.in-Expr.is c.convert_expr.ensures.converts_as (ap (converted _) c.in_err-o.was); types = args-refused-types })
+pub convert_args-returns-in-Err : goal.convert_args-returns-in-Err
+convert_args-returns-in-Err t c = record { call_args_as = turn-stop c.requires.converting.0 c.requires.converting.1 c.requires.kind c.loop-cell.invariant.0 c.loop-cell-test.true c.argument_at.ensures c.in-Expr.is c.convert_expr.ensures.converts_as (ap (converted _) c.in-Err.is); types = args-refused-types }
 
 pub convert_args-next_cell-cell-requires : goal.convert_args-next_cell-cell-requires
 convert_args-next_cell-cell-requires t c = cell-low c.requires.converting.0 c.requires.converting.1 c.requires.kind c.loop-cell.invariant.0 c.loop-cell-test.true
@@ -38,7 +37,7 @@ convert_args-loop-cell-smaller t c = next-less c.requires.converting.0 c.require
 
 pub convert_args-loop-cell-preserved : goal.convert_args-loop-cell-preserved
 convert_args-loop-cell-preserved t c = (
-  elim c.match-argument_at.branch [ convert_args-in-Expr+in_ok-o w ↦ turn-value c.requires.converting.0 c.requires.converting.1 c.requires.kind c.loop-cell.invariant.0 c.loop-cell-test.true c.argument_at.ensures w.in-Expr.is w.convert_expr.ensures.converts_as (ap (converted _) w.in_ok-o.was) w.convert_expr.ensures.types w.push_operand.ensures.written w.push_operand.ensures.back w.arena-is w.scratch-is (at_same w.at-is w.k-is) _ c.next_cell-cell.ensures | convert_args-in_default w ↦ turn-type c.requires.converting.0 c.requires.converting.1 c.requires.kind c.loop-cell.invariant.0 c.loop-cell-test.true c.argument_at.ensures _ w.in_default.is w.arena-is w.scratch-is (at_same w.at-is w.k-is) _ c.next_cell-cell.ensures ],
+  elim c.match-argument_at.branch [ convert_args-in-Expr+in-Ok w ↦ turn-value c.requires.converting.0 c.requires.converting.1 c.requires.kind c.loop-cell.invariant.0 c.loop-cell-test.true c.argument_at.ensures w.in-Expr.is w.convert_expr.ensures.converts_as (ap (converted _) w.in-Ok.is) w.convert_expr.ensures.types w.push_operand.ensures.written w.push_operand.ensures.back w.arena-is w.scratch-is (at_same w.at-is w.k-is) _ c.next_cell-cell.ensures | convert_args-in_default w ↦ turn-type c.requires.converting.0 c.requires.converting.1 c.requires.kind c.loop-cell.invariant.0 c.loop-cell-test.true c.argument_at.ensures _ w.in_default.is w.arena-is w.scratch-is (at_same w.at-is w.k-is) _ c.next_cell-cell.ensures ],
   omega (arith, c.match-argument_at.auto.k, c.loop-cell.invariant.1),
 )
 
@@ -46,58 +45,58 @@ pub convert_args-returns : goal.convert_args-returns
 convert_args-returns t c = record { call_args_as = loop_end_lem c.requires.converting.0 c.requires.converting.1 c.requires.kind c.loop-cell.invariant.0 c.loop-cell-test.false _ refl; types = loop_end-types c.requires.converting.0 c.requires.converting.1 c.requires.kind c.loop-cell.invariant.0 c.loop-cell-test.false _ }
 
 pub convert_binary-convert_logic-requires : goal.convert_binary-convert_logic-requires
-convert_binary-convert_logic-requires t c = (omega (arith, c.decreases), ((fitted_converting c.requires.converting.0 c.requires.kind.0 ((c.operand_type.ensures.by_index_2 c.args.k.now)), c.requires.converting.1), ((c.requires.kind.0, c.requires.kind.1), common_in-turn c.requires.converting.0 ((c.operand_type.ensures.by_index_2 c.args.k.now)) ((c.operand_type.ensures.types c.args.k.now)) c.in_ok-q.was)))
+convert_binary-convert_logic-requires t c = (omega (arith, c.decreases), ((fitted_converting c.requires.converting.0 c.requires.kind.0 ((c.operand_type.ensures.by_index_2 c.args.k.now)), c.requires.converting.1), ((c.requires.kind.0, c.requires.kind.1), common_in-turn c.requires.converting.0 ((c.operand_type.ensures.by_index_2 c.args.k.now)) ((c.operand_type.ensures.types c.args.k.now)) c.in-Ok.is)))
 
 pub convert_binary-returns-then-detail-le-AND : goal.convert_binary-returns-then-detail-le-AND
-convert_binary-returns-then-detail-le-AND t c = record { converts_as = fitted_logic c.requires.converting.0 c.requires.kind.0 ((c.operand_type.ensures.by_index_2 c.args.k.now)) c.in_ok-q.was c.detail.ensures c.if-detail-le-AND.true c.convert_logic.ensures.converts_as; types = common_types_lem c.requires.converting.0 ((c.operand_type.ensures.by_index_2 c.args.k.now)) ((c.operand_type.ensures.types c.args.k.now)) c.in_ok-q.was c.convert_logic.ensures.types }
+convert_binary-returns-then-detail-le-AND t c = record { converts_as = fitted_logic c.requires.converting.0 c.requires.kind.0 ((c.operand_type.ensures.by_index_2 c.args.k.now)) c.in-Ok.is c.detail.ensures c.if-detail-le-AND.true c.convert_logic.ensures.converts_as; types = common_types_lem c.requires.converting.0 ((c.operand_type.ensures.by_index_2 c.args.k.now)) ((c.operand_type.ensures.types c.args.k.now)) c.in-Ok.is c.convert_logic.ensures.types }
 
 pub convert_binary-convert_other-requires : goal.convert_binary-convert_other-requires
-convert_binary-convert_other-requires t c = (omega (arith, c.decreases), ((fitted_converting c.requires.converting.0 c.requires.kind.0 ((c.operand_type.ensures.by_index_2 c.args.k.now)), c.requires.converting.1), ((c.requires.kind.0, c.requires.kind.1, is-typed _ _ _ ((c.operand_type.ensures.by_index_2 c.args.k.now)).typed c.in_ok-q.was), common_in-turn c.requires.converting.0 ((c.operand_type.ensures.by_index_2 c.args.k.now)) ((c.operand_type.ensures.types c.args.k.now)) c.in_ok-q.was)))
+convert_binary-convert_other-requires t c = (omega (arith, c.decreases), ((fitted_converting c.requires.converting.0 c.requires.kind.0 ((c.operand_type.ensures.by_index_2 c.args.k.now)), c.requires.converting.1), ((c.requires.kind.0, c.requires.kind.1, is-typed _ _ _ ((c.operand_type.ensures.by_index_2 c.args.k.now)).typed c.in-Ok.is), common_in-turn c.requires.converting.0 ((c.operand_type.ensures.by_index_2 c.args.k.now)) ((c.operand_type.ensures.types c.args.k.now)) c.in-Ok.is)))
 
-pub convert_binary-returns-in_err-q : goal.convert_binary-returns-in_err-q
-convert_binary-returns-in_err-q t c = let p = err_from_is_err_and c.from_residual.result c.from_residual.ensures.1 in rw (p.1, p.2) (record { converts_as = fitted-stop c.requires.converting.0 c.requires.kind.0 ((c.operand_type.ensures.by_index_2 c.args.k.now)) c.in_err-q.was; types = refused-types })
+pub convert_binary-returns-in-Err : goal.convert_binary-returns-in-Err
+convert_binary-returns-in-Err t c = record { converts_as = fitted-stop c.requires.converting.0 c.requires.kind.0 ((c.operand_type.ensures.by_index_2 c.args.k.now)) c.in-Err.is; types = refused-types }
 
-pub convert_binary-returns : goal.convert_binary-returns
-convert_binary-returns t c = record { converts_as = fitted-other c.requires.converting.0 c.requires.kind.0 ((c.operand_type.ensures.by_index_2 c.args.k.now)) c.in_ok-q.was c.detail.ensures c.if-detail-le-AND.false c.convert_other.ensures.converts_as; types = common_types_lem c.requires.converting.0 ((c.operand_type.ensures.by_index_2 c.args.k.now)) ((c.operand_type.ensures.types c.args.k.now)) c.in_ok-q.was c.convert_other.ensures.types }
+pub convert_binary-returns-else-detail-le-AND : goal.convert_binary-returns-else-detail-le-AND
+convert_binary-returns-else-detail-le-AND t c = record { converts_as = fitted-other c.requires.converting.0 c.requires.kind.0 ((c.operand_type.ensures.by_index_2 c.args.k.now)) c.in-Ok.is c.detail.ensures c.if-detail-le-AND.false c.convert_other.ensures.converts_as; types = common_types_lem c.requires.converting.0 ((c.operand_type.ensures.by_index_2 c.args.k.now)) ((c.operand_type.ensures.types c.args.k.now)) c.in-Ok.is c.convert_other.ensures.types }
 
-pub convert_call_value-returns-in_err-callee : goal.convert_call_value-returns-in_err-callee
-convert_call_value-returns-in_err-callee t c = let p = err_from_is_err_and c.from_residual.result c.from_residual.ensures.1 in rw (p.1, p.2) (record { converts_as = called_stop c.requires.converting.0 c.requires.converting.1 c.requires.kind.0 c.resolve_call.ensures _ c.in_err-callee.was; types = refused-types })
+pub convert_call_value-returns-in-Err : goal.convert_call_value-returns-in-Err
+convert_call_value-returns-in-Err t c = record { converts_as = called_stop c.requires.converting.0 c.requires.converting.1 c.requires.kind.0 c.resolve_call.ensures _ c.in-Err.is; types = refused-types }
 
 pub convert_call_value-convert_args-requires : goal.convert_call_value-convert_args-requires
-convert_call_value-convert_args-requires t c = (omega (arith, c.decreases), ((called_converting c.requires.converting.0 c.requires.converting.1 c.requires.kind.0 c.resolve_call.ensures, called_afforded c.requires.converting.0 c.requires.converting.1 c.requires.kind.0 c.resolve_call.ensures), (c.requires.kind.0, called_in_turn c.requires.converting.0 c.resolve_call.ensures c.in_ok-callee.was)))
+convert_call_value-convert_args-requires t c = (omega (arith, c.decreases), ((called_converting c.requires.converting.0 c.requires.converting.1 c.requires.kind.0 c.resolve_call.ensures, called_afforded c.requires.converting.0 c.requires.converting.1 c.requires.kind.0 c.resolve_call.ensures), (c.requires.kind.0, called_in_turn c.requires.converting.0 c.resolve_call.ensures c.in-Ok.is)))
 
 pub convert_call_value-finish_call-requires : goal.convert_call_value-finish_call-requires
-convert_call_value-finish_call-requires t c = record { converting = (finish_converting c.requires.converting.0 c.requires.converting.1 c.requires.kind.0 c.resolve_call.ensures c.convert_args.ensures.call_args_as (ap (converted_args _) c.in_ok-count.was), finish_afforded c.requires.converting.0 c.requires.converting.1 c.requires.kind.0 c.resolve_call.ensures c.convert_args.ensures.call_args_as (ap (converted_args _) c.in_ok-count.was)); kind = (c.requires.kind.0, c.requires.kind.1, subst (IsCallee _) c.in_ok-callee.was c.resolve_call.ensures.callee, (c.convert_args.ensures.call_args_as.operands _ _ (ap (converted_args _) c.in_ok-count.was)).1) }
+convert_call_value-finish_call-requires t c = record { converting = (finish_converting c.requires.converting.0 c.requires.converting.1 c.requires.kind.0 c.resolve_call.ensures c.convert_args.ensures.call_args_as (ap (converted_args _) c.in-Ok-convert_args.is), finish_afforded c.requires.converting.0 c.requires.converting.1 c.requires.kind.0 c.resolve_call.ensures c.convert_args.ensures.call_args_as (ap (converted_args _) c.in-Ok-convert_args.is)); kind = (c.requires.kind.0, c.requires.kind.1, subst (IsCallee _) c.in-Ok.is c.resolve_call.ensures.callee, (c.convert_args.ensures.call_args_as.operands _ _ (ap (converted_args _) c.in-Ok-convert_args.is)).1) }
 
-pub convert_call_value-returns-in_err-count : goal.convert_call_value-returns-in_err-count
-convert_call_value-returns-in_err-count t c = let p = err_from_is_err_and c.from_residual-in_err-count.result c.from_residual-in_err-count.ensures.1 in rw (p.1, p.2) (record { converts_as = args-stop c.requires.converting.0 c.requires.converting.1 c.requires.kind.0 c.resolve_call.ensures c.convert_args.ensures.call_args_as _ c.in_ok-callee.was (ap (converted_args _) c.in_err-count.was); types = refused-types })
+pub convert_call_value-returns-in-Err-convert_args : goal.convert_call_value-returns-in-Err-convert_args
+convert_call_value-returns-in-Err-convert_args t c = record { converts_as = args-stop c.requires.converting.0 c.requires.converting.1 c.requires.kind.0 c.resolve_call.ensures c.convert_args.ensures.call_args_as _ c.in-Ok.is (ap (converted_args _) c.in-Err-convert_args.is); types = refused-types }
 
-pub convert_call_value-returns : goal.convert_call_value-returns
-convert_call_value-returns t c = record { converts_as = called_next c.requires.converting.0 c.requires.converting.1 c.requires.kind.0 c.resolve_call.ensures c.convert_args.ensures.call_args_as (ap (converted_args _) c.in_ok-count.was) _ c.in_ok-callee.was (λ to m. c.finish_call.ensures.call_ends_as to (sym (ap (callee_of _ _) c.in_ok-callee.was) ∙ m)); types = called_types c.requires.converting.0 c.resolve_call.ensures c.in_ok-callee.was c.convert_args.ensures.types (ap (converted_args _) c.in_ok-count.was) c.finish_call.ensures.turns }
+pub convert_call_value-returns-in-Ok-convert_args : goal.convert_call_value-returns-in-Ok-convert_args
+convert_call_value-returns-in-Ok-convert_args t c = record { converts_as = called_next c.requires.converting.0 c.requires.converting.1 c.requires.kind.0 c.resolve_call.ensures c.convert_args.ensures.call_args_as (ap (converted_args _) c.in-Ok-convert_args.is) _ c.in-Ok.is (λ to m. c.finish_call.ensures.call_ends_as to (sym (ap (callee_of _ _) c.in-Ok.is) ∙ m)); types = called_types c.requires.converting.0 c.resolve_call.ensures c.in-Ok.is c.convert_args.ensures.types (ap (converted_args _) c.in-Ok-convert_args.is) c.finish_call.ensures.turns }
 
 pub convert_expr-returns-then-node-le-KIND_SIZE_OF : goal.convert_expr-returns-then-node-le-KIND_SIZE_OF
 convert_expr-returns-then-node-le-KIND_SIZE_OF t c = record { converts_as = converts-most (omega arith) c.operand.ensures; types = leaf_types c.requires.converting.0 c.requires.expr c.kind-node.ensures c.if-node-le-KIND_SIZE_OF.true c.requires.in_turn }
 
 pub convert_expr-convert_unary-requires : goal.convert_expr-convert_unary-requires
-convert_expr-convert_unary-requires t c = (omega (arith, c.decreases), ((typed_converting c.requires.converting.0 c.requires.expr c.get_type.ensures, c.requires.converting.1), ((is-kind _ _ c.requires.converting.0.ready.keyed.good _ _ c.requires.expr c.kind-node.ensures 9 c.if-node-eq-KIND_UNARY.true, is-typed _ _ _ c.get_type.ensures.typed c.in_ok-y.was), typed-in_turn c.requires.converting.0 c.get_type.ensures c.in_ok-y.was)))
+convert_expr-convert_unary-requires t c = (omega (arith, c.decreases), ((typed_converting c.requires.converting.0 c.requires.expr c.get_type.ensures, c.requires.converting.1), ((is-kind _ _ c.requires.converting.0.ready.keyed.good _ _ c.requires.expr c.kind-node.ensures 9 c.if-node-eq-KIND_UNARY.true, is-typed _ _ _ c.get_type.ensures.typed c.in-Ok.is), typed-in_turn c.requires.converting.0 c.get_type.ensures c.in-Ok.is)))
 
 pub convert_expr-returns-then-node-eq-KIND_UNARY : goal.convert_expr-returns-then-node-eq-KIND_UNARY
-convert_expr-returns-then-node-eq-KIND_UNARY t c = record { converts_as = typed-unary c.requires.converting.0 c.requires.expr c.get_type.ensures c.kind-node.ensures c.in_ok-y.was c.if-node-eq-KIND_UNARY.true c.convert_unary.ensures.converts_as; types = unary_types_lem c.requires.converting.0 c.get_type.ensures c.in_ok-y.was c.requires.expr c.kind-node.ensures c.if-node-eq-KIND_UNARY.true c.convert_unary.ensures.types }
+convert_expr-returns-then-node-eq-KIND_UNARY t c = record { converts_as = typed-unary c.requires.converting.0 c.requires.expr c.get_type.ensures c.kind-node.ensures c.in-Ok.is c.if-node-eq-KIND_UNARY.true c.convert_unary.ensures.converts_as; types = unary_types_lem c.requires.converting.0 c.get_type.ensures c.in-Ok.is c.requires.expr c.kind-node.ensures c.if-node-eq-KIND_UNARY.true c.convert_unary.ensures.types }
 
 pub convert_expr-convert_binary-requires : goal.convert_expr-convert_binary-requires
-convert_expr-convert_binary-requires t c = (omega (arith, c.decreases), ((typed_converting c.requires.converting.0 c.requires.expr c.get_type.ensures, c.requires.converting.1), ((is-kind _ _ c.requires.converting.0.ready.keyed.good _ _ c.requires.expr c.kind-node.ensures 10 c.if-node-eq-KIND_BINARY.true, is-typed _ _ _ c.get_type.ensures.typed c.in_ok-y.was), typed-in_turn c.requires.converting.0 c.get_type.ensures c.in_ok-y.was)))
+convert_expr-convert_binary-requires t c = (omega (arith, c.decreases), ((typed_converting c.requires.converting.0 c.requires.expr c.get_type.ensures, c.requires.converting.1), ((is-kind _ _ c.requires.converting.0.ready.keyed.good _ _ c.requires.expr c.kind-node.ensures 10 c.if-node-eq-KIND_BINARY.true, is-typed _ _ _ c.get_type.ensures.typed c.in-Ok.is), typed-in_turn c.requires.converting.0 c.get_type.ensures c.in-Ok.is)))
 
 pub convert_expr-returns-then-node-eq-KIND_BINARY : goal.convert_expr-returns-then-node-eq-KIND_BINARY
-convert_expr-returns-then-node-eq-KIND_BINARY t c = record { converts_as = typed-binary c.requires.converting.0 c.requires.expr c.get_type.ensures c.kind-node.ensures c.in_ok-y.was c.if-node-eq-KIND_BINARY.true c.convert_binary.ensures.converts_as; types = binary_types_lem c.requires.converting.0 c.get_type.ensures c.in_ok-y.was c.requires.expr c.kind-node.ensures c.if-node-eq-KIND_BINARY.true c.convert_binary.ensures.types }
+convert_expr-returns-then-node-eq-KIND_BINARY t c = record { converts_as = typed-binary c.requires.converting.0 c.requires.expr c.get_type.ensures c.kind-node.ensures c.in-Ok.is c.if-node-eq-KIND_BINARY.true c.convert_binary.ensures.converts_as; types = binary_types_lem c.requires.converting.0 c.get_type.ensures c.in-Ok.is c.requires.expr c.kind-node.ensures c.if-node-eq-KIND_BINARY.true c.convert_binary.ensures.types }
 
 pub convert_expr-convert_call_value-requires : goal.convert_expr-convert_call_value-requires
-convert_expr-convert_call_value-requires t c = (omega (arith, c.decreases), ((typed_converting c.requires.converting.0 c.requires.expr c.get_type.ensures, c.requires.converting.1), ((record { below = expr-low _ _ c.requires.converting.0.ready.keyed.good _ c.requires.expr; kind = call-kind c.requires.expr c.kind-node.ensures c.if-node-le-KIND_SIZE_OF.false c.if-node-eq-KIND_UNARY.false c.if-node-eq-KIND_BINARY.false }, is-typed _ _ _ c.get_type.ensures.typed c.in_ok-y.was), typed-in_turn c.requires.converting.0 c.get_type.ensures c.in_ok-y.was)))
+convert_expr-convert_call_value-requires t c = (omega (arith, c.decreases), ((typed_converting c.requires.converting.0 c.requires.expr c.get_type.ensures, c.requires.converting.1), ((record { below = expr-low _ _ c.requires.converting.0.ready.keyed.good _ c.requires.expr; kind = call-kind c.requires.expr c.kind-node.ensures c.if-node-le-KIND_SIZE_OF.false c.if-node-eq-KIND_UNARY.false c.if-node-eq-KIND_BINARY.false }, is-typed _ _ _ c.get_type.ensures.typed c.in-Ok.is), typed-in_turn c.requires.converting.0 c.get_type.ensures c.in-Ok.is)))
 
-pub convert_expr-returns-in_err-y : goal.convert_expr-returns-in_err-y
-convert_expr-returns-in_err-y t c = let p = err_from_is_err_and c.from_residual.result c.from_residual.ensures.1 in rw (p.1, p.2) (record { converts_as = typed-stop c.requires.converting.0 c.requires.expr c.get_type.ensures c.kind-node.ensures c.if-node-le-KIND_SIZE_OF.false c.in_err-y.was; types = refused-types })
+pub convert_expr-returns-in-Err : goal.convert_expr-returns-in-Err
+convert_expr-returns-in-Err t c = record { converts_as = typed-stop c.requires.converting.0 c.requires.expr c.get_type.ensures c.kind-node.ensures c.if-node-le-KIND_SIZE_OF.false c.in-Err.is; types = refused-types }
 
-pub convert_expr-returns : goal.convert_expr-returns
-convert_expr-returns t c = record { converts_as = typed_call c.requires.converting.0 c.requires.expr c.get_type.ensures c.kind-node.ensures c.in_ok-y.was (call-kind c.requires.expr c.kind-node.ensures c.if-node-le-KIND_SIZE_OF.false c.if-node-eq-KIND_UNARY.false c.if-node-eq-KIND_BINARY.false) c.convert_call_value.ensures.converts_as; types = call_types_lem c.requires.converting.0 c.get_type.ensures c.in_ok-y.was c.requires.expr c.kind-node.ensures (call-kind c.requires.expr c.kind-node.ensures c.if-node-le-KIND_SIZE_OF.false c.if-node-eq-KIND_UNARY.false c.if-node-eq-KIND_BINARY.false) c.convert_call_value.ensures.types }
+pub convert_expr-returns-else-node-eq-KIND_BINARY : goal.convert_expr-returns-else-node-eq-KIND_BINARY
+convert_expr-returns-else-node-eq-KIND_BINARY t c = record { converts_as = typed_call c.requires.converting.0 c.requires.expr c.get_type.ensures c.kind-node.ensures c.in-Ok.is (call-kind c.requires.expr c.kind-node.ensures c.if-node-le-KIND_SIZE_OF.false c.if-node-eq-KIND_UNARY.false c.if-node-eq-KIND_BINARY.false) c.convert_call_value.ensures.converts_as; types = call_types_lem c.requires.converting.0 c.get_type.ensures c.in-Ok.is c.requires.expr c.kind-node.ensures (call-kind c.requires.expr c.kind-node.ensures c.if-node-le-KIND_SIZE_OF.false c.if-node-eq-KIND_UNARY.false c.if-node-eq-KIND_BINARY.false) c.convert_call_value.ensures.types }
 
 pub convert_logic-begin_logic-dest-requires : goal.convert_logic-begin_logic-dest-requires
 convert_logic-begin_logic-dest-requires t c = let h = begin_room c.requires.converting.0 c.requires.converting.1 c.requires.kind.0 c.reference-left.ensures c.reference-right.ensures in (h.0, h.1, omega (arith, c.requires.kind.1.below, c.requires.converting.0.ready.keyed.good.few))
@@ -106,49 +105,49 @@ pub convert_logic-convert_expr-requires : goal.convert_logic-convert_expr-requir
 convert_logic-convert_expr-requires t c = let h = left_side c.requires.converting.0.ready.keyed.good c.requires.kind.0 c.reference-left.ensures in (omega (arith, h.0, c.decreases), ((logic_converting c.requires.converting.0 c.requires.converting.1 c.requires.kind.0 c.reference-left.ensures c.reference-right.ensures _ c.begin_logic-dest.ensures.adds, logic_left_afforded c.requires.converting.0 c.requires.converting.1 c.requires.kind.0 c.reference-left.ensures c.reference-right.ensures _ c.begin_logic-dest.ensures.adds), (h.1, c.requires.in_turn)))
 
 pub convert_logic-join_logic-requires : goal.convert_logic-join_logic-requires
-convert_logic-join_logic-requires t c = let h = logic_room c.requires.converting.0 c.requires.converting.1 c.requires.kind.0 c.reference-left.ensures c.reference-right.ensures _ c.begin_logic-dest.ensures.adds c.convert_expr.ensures.converts_as (ap (converted _) c.in_ok-a.was) in (h.0, h.1, omega (arith, c.requires.kind.0.below, c.requires.converting.0.ready.keyed.good.whole))
+convert_logic-join_logic-requires t c = let h = logic_room c.requires.converting.0 c.requires.converting.1 c.requires.kind.0 c.reference-left.ensures c.reference-right.ensures _ c.begin_logic-dest.ensures.adds c.convert_expr.ensures.converts_as (ap (converted _) c.in-Ok.is) in (h.0, h.1, omega (arith, c.requires.kind.0.below, c.requires.converting.0.ready.keyed.good.whole))
 
-pub convert_logic-convert_expr-requires-2 : goal.convert_logic-convert_expr-requires-2
-convert_logic-convert_expr-requires-2 t c = let h = right_side c.requires.converting.0.ready.keyed.good c.requires.kind.0 c.reference-right.ensures in (omega (arith, h.0, c.decreases), ((logic_right_converting c.requires.converting.0 c.requires.converting.1 c.requires.kind.0 c.reference-left.ensures c.reference-right.ensures _ c.begin_logic-dest.ensures.adds c.convert_expr.ensures.converts_as (ap (converted _) c.in_ok-a.was) c.join_logic.ensures, logic_right_afforded c.requires.converting.0 c.requires.converting.1 c.requires.kind.0 c.reference-left.ensures c.reference-right.ensures _ c.begin_logic-dest.ensures.adds c.convert_expr.ensures.converts_as (ap (converted _) c.in_ok-a.was) c.join_logic.ensures), (h.1, left-in_turn c.requires.converting.0 _ c.reference-left.ensures c.convert_expr.ensures.types (ap (converted _) c.in_ok-a.was) c.convert_expr.ensures.converts_as.stays)))
+pub convert_logic-convert_expr-requires-in-Ok : goal.convert_logic-convert_expr-requires-in-Ok
+convert_logic-convert_expr-requires-in-Ok t c = let h = right_side c.requires.converting.0.ready.keyed.good c.requires.kind.0 c.reference-right.ensures in (omega (arith, h.0, c.decreases), ((logic_right_converting c.requires.converting.0 c.requires.converting.1 c.requires.kind.0 c.reference-left.ensures c.reference-right.ensures _ c.begin_logic-dest.ensures.adds c.convert_expr.ensures.converts_as (ap (converted _) c.in-Ok.is) c.join_logic.ensures, logic_right_afforded c.requires.converting.0 c.requires.converting.1 c.requires.kind.0 c.reference-left.ensures c.reference-right.ensures _ c.begin_logic-dest.ensures.adds c.convert_expr.ensures.converts_as (ap (converted _) c.in-Ok.is) c.join_logic.ensures), (h.1, left-in_turn c.requires.converting.0 _ c.reference-left.ensures c.convert_expr.ensures.types (ap (converted _) c.in-Ok.is) c.convert_expr.ensures.converts_as.stays)))
 
 pub convert_logic-end_logic-requires : goal.convert_logic-end_logic-requires
-convert_logic-end_logic-requires t c = logic_end-room c.requires.converting.0 c.requires.converting.1 c.requires.kind.0 c.reference-left.ensures c.reference-right.ensures _ c.begin_logic-dest.ensures.adds c.convert_expr.ensures.converts_as (ap (converted _) c.in_ok-a.was) c.join_logic.ensures c.convert_expr-2.ensures.converts_as (ap (converted _) c.in_ok-b.was)
+convert_logic-end_logic-requires t c = logic_end-room c.requires.converting.0 c.requires.converting.1 c.requires.kind.0 c.reference-left.ensures c.reference-right.ensures _ c.begin_logic-dest.ensures.adds c.convert_expr.ensures.converts_as (ap (converted _) c.in-Ok.is) c.join_logic.ensures c.convert_expr-in-Ok.ensures.converts_as (ap (converted _) c.in-Ok-convert_expr.is)
 
-pub convert_logic-returns-in_err-a : goal.convert_logic-returns-in_err-a
-convert_logic-returns-in_err-a t c = let p = err_from_is_err_and c.from_residual.result c.from_residual.ensures.1 in rw (p.1, p.2) (record { converts_as = logic_left c.requires.converting.0 c.requires.converting.1 c.requires.kind.0 c.reference-left.ensures c.reference-right.ensures _ c.begin_logic-dest.ensures.adds c.convert_expr.ensures.converts_as (ap (converted _) c.in_err-a.was); types = refused-types })
+pub convert_logic-returns-in-Err : goal.convert_logic-returns-in-Err
+convert_logic-returns-in-Err t c = record { converts_as = logic_left c.requires.converting.0 c.requires.converting.1 c.requires.kind.0 c.reference-left.ensures c.reference-right.ensures _ c.begin_logic-dest.ensures.adds c.convert_expr.ensures.converts_as (ap (converted _) c.in-Err.is); types = refused-types }
 
-pub convert_logic-returns-in_err-b : goal.convert_logic-returns-in_err-b
-convert_logic-returns-in_err-b t c = let p = err_from_is_err_and c.from_residual-in_err-b.result c.from_residual-in_err-b.ensures.1 in rw (p.1, p.2) (record { converts_as = logic_right c.requires.converting.0 c.requires.converting.1 c.requires.kind.0 c.reference-left.ensures c.reference-right.ensures _ c.begin_logic-dest.ensures.adds c.convert_expr.ensures.converts_as (ap (converted _) c.in_ok-a.was) c.join_logic.ensures c.convert_expr-2.ensures.converts_as (ap (converted _) c.in_err-b.was); types = refused-types })
+pub convert_logic-returns-in-Err-convert_expr : goal.convert_logic-returns-in-Err-convert_expr
+convert_logic-returns-in-Err-convert_expr t c = record { converts_as = logic_right c.requires.converting.0 c.requires.converting.1 c.requires.kind.0 c.reference-left.ensures c.reference-right.ensures _ c.begin_logic-dest.ensures.adds c.convert_expr.ensures.converts_as (ap (converted _) c.in-Ok.is) c.join_logic.ensures c.convert_expr-in-Ok.ensures.converts_as (ap (converted _) c.in-Err-convert_expr.is); types = refused-types }
 
-pub convert_logic-returns : goal.convert_logic-returns
-convert_logic-returns t c = record { converts_as = logic_next c.requires.converting.0 c.requires.converting.1 c.requires.kind.0 c.reference-left.ensures c.reference-right.ensures _ c.begin_logic-dest.ensures.adds c.convert_expr.ensures.converts_as (ap (converted _) c.in_ok-a.was) c.join_logic.ensures c.convert_expr-2.ensures.converts_as (ap (converted _) c.in_ok-b.was) (c.end_logic.ensures _ (variable_type_lem c.begin_logic-dest.ensures.typed c.requires.kind.1)) refl; types = sides_types_lem c.requires.converting.0 _ c.reference-left.ensures c.convert_expr.ensures.types (ap (converted _) c.in_ok-a.was) c.convert_expr.ensures.converts_as.stays c.reference-right.ensures c.convert_expr-2.ensures.types (ap (converted _) c.in_ok-b.was) }
+pub convert_logic-returns-in-Ok-convert_expr : goal.convert_logic-returns-in-Ok-convert_expr
+convert_logic-returns-in-Ok-convert_expr t c = record { converts_as = logic_next c.requires.converting.0 c.requires.converting.1 c.requires.kind.0 c.reference-left.ensures c.reference-right.ensures _ c.begin_logic-dest.ensures.adds c.convert_expr.ensures.converts_as (ap (converted _) c.in-Ok.is) c.join_logic.ensures c.convert_expr-in-Ok.ensures.converts_as (ap (converted _) c.in-Ok-convert_expr.is) (c.end_logic.ensures _ (variable_type_lem c.begin_logic-dest.ensures.typed c.requires.kind.1)) refl; types = sides_types_lem c.requires.converting.0 _ c.reference-left.ensures c.convert_expr.ensures.types (ap (converted _) c.in-Ok.is) c.convert_expr.ensures.converts_as.stays c.reference-right.ensures c.convert_expr-in-Ok.ensures.types (ap (converted _) c.in-Ok-convert_expr.is) }
 
 pub convert_other-convert_expr-requires : goal.convert_other-convert_expr-requires
 convert_other-convert_expr-requires t c = let h = left_side c.requires.converting.0.ready.keyed.good c.requires.kind.0 c.reference-left.ensures in (omega (arith, h.0, c.decreases), ((c.requires.converting.0, left_afforded c.requires.converting.0 c.requires.converting.1 c.requires.kind.0 c.reference-left.ensures c.reference-right.ensures), (h.1, c.requires.in_turn)))
 
-pub convert_other-convert_expr-requires-2 : goal.convert_other-convert_expr-requires-2
-convert_other-convert_expr-requires-2 t c = let h = right_side c.requires.converting.0.ready.keyed.good c.requires.kind.0 c.reference-right.ensures in (omega (arith, h.0, c.decreases), ((converting_after c.convert_expr.ensures.converts_as (ap (converted _) c.in_ok-a.was) c.requires.converting.0, other_afforded c.requires.converting.0 c.requires.converting.1 c.requires.kind.0 c.reference-left.ensures c.reference-right.ensures c.convert_expr.ensures.converts_as (ap (converted _) c.in_ok-a.was)), (h.1, left-in_turn c.requires.converting.0 _ c.reference-left.ensures c.convert_expr.ensures.types (ap (converted _) c.in_ok-a.was) c.convert_expr.ensures.converts_as.stays)))
+pub convert_other-convert_expr-requires-in-Ok : goal.convert_other-convert_expr-requires-in-Ok
+convert_other-convert_expr-requires-in-Ok t c = let h = right_side c.requires.converting.0.ready.keyed.good c.requires.kind.0 c.reference-right.ensures in (omega (arith, h.0, c.decreases), ((converting_after c.convert_expr.ensures.converts_as (ap (converted _) c.in-Ok.is) c.requires.converting.0, other_afforded c.requires.converting.0 c.requires.converting.1 c.requires.kind.0 c.reference-left.ensures c.reference-right.ensures c.convert_expr.ensures.converts_as (ap (converted _) c.in-Ok.is)), (h.1, left-in_turn c.requires.converting.0 _ c.reference-left.ensures c.convert_expr.ensures.types (ap (converted _) c.in-Ok.is) c.convert_expr.ensures.converts_as.stays)))
 
 pub convert_other-finish_binary-requires : goal.convert_other-finish_binary-requires
-convert_other-finish_binary-requires t c = record { room_for = (other-room c.requires.converting.0 c.requires.converting.1 c.requires.kind.0 c.reference-left.ensures c.reference-right.ensures c.convert_expr.ensures.converts_as (ap (converted _) c.in_ok-a.was) c.convert_expr-2.ensures.converts_as (ap (converted _) c.in_ok-b.was), omega (arith, c.requires.kind.1.below, c.requires.converting.0.ready.keyed.good.few), omega (arith, c.requires.kind.2.below, c.requires.converting.0.ready.keyed.good.few)); type_at = (c.requires.kind.1, c.requires.kind.2); operand_in = (c.convert_expr.ensures.converts_as.operand _ _ (ap (converted _) c.in_ok-a.was), c.convert_expr-2.ensures.converts_as.operand _ _ (ap (converted _) c.in_ok-b.was)) }
+convert_other-finish_binary-requires t c = record { room_for = (other-room c.requires.converting.0 c.requires.converting.1 c.requires.kind.0 c.reference-left.ensures c.reference-right.ensures c.convert_expr.ensures.converts_as (ap (converted _) c.in-Ok.is) c.convert_expr-in-Ok.ensures.converts_as (ap (converted _) c.in-Ok-convert_expr.is), omega (arith, c.requires.kind.1.below, c.requires.converting.0.ready.keyed.good.few), omega (arith, c.requires.kind.2.below, c.requires.converting.0.ready.keyed.good.few)); type_at = (c.requires.kind.1, c.requires.kind.2); operand_in = (c.convert_expr.ensures.converts_as.operand _ _ (ap (converted _) c.in-Ok.is), c.convert_expr-in-Ok.ensures.converts_as.operand _ _ (ap (converted _) c.in-Ok-convert_expr.is)) }
 
-pub convert_other-returns-in_err-a : goal.convert_other-returns-in_err-a
-convert_other-returns-in_err-a t c = let p = err_from_is_err_and c.from_residual.result c.from_residual.ensures.1 in rw (p.1, p.2) (record { converts_as = other-left c.requires.converting.0 c.requires.converting.1 c.requires.kind.0 c.reference-left.ensures c.reference-right.ensures c.convert_expr.ensures.converts_as _ _ (ap (converted _) c.in_err-a.was); types = refused-types })
+pub convert_other-returns-in-Err : goal.convert_other-returns-in-Err
+convert_other-returns-in-Err t c = record { converts_as = other-left c.requires.converting.0 c.requires.converting.1 c.requires.kind.0 c.reference-left.ensures c.reference-right.ensures c.convert_expr.ensures.converts_as _ _ (ap (converted _) c.in-Err.is); types = refused-types }
 
-pub convert_other-returns-in_err-b : goal.convert_other-returns-in_err-b
-convert_other-returns-in_err-b t c = let p = err_from_is_err_and c.from_residual-in_err-b.result c.from_residual-in_err-b.ensures.1 in rw (p.1, p.2) (record { converts_as = other-right c.requires.converting.0 c.requires.converting.1 c.requires.kind.0 c.reference-left.ensures c.reference-right.ensures c.convert_expr.ensures.converts_as (ap (converted _) c.in_ok-a.was) c.convert_expr-2.ensures.converts_as _ _ (ap (converted _) c.in_err-b.was); types = refused-types })
+pub convert_other-returns-in-Err-convert_expr : goal.convert_other-returns-in-Err-convert_expr
+convert_other-returns-in-Err-convert_expr t c = record { converts_as = other-right c.requires.converting.0 c.requires.converting.1 c.requires.kind.0 c.reference-left.ensures c.reference-right.ensures c.convert_expr.ensures.converts_as (ap (converted _) c.in-Ok.is) c.convert_expr-in-Ok.ensures.converts_as _ _ (ap (converted _) c.in-Err-convert_expr.is); types = refused-types }
 
-pub convert_other-returns : goal.convert_other-returns
-convert_other-returns t c = record { converts_as = other-next c.requires.converting.0 c.requires.converting.1 c.requires.kind.0 c.reference-left.ensures c.reference-right.ensures c.convert_expr.ensures.converts_as (ap (converted _) c.in_ok-a.was) c.convert_expr-2.ensures.converts_as _ _ c.detail-op.ensures (ap (converted _) c.in_ok-b.was) (c.finish_binary.ensures _) refl; types = sides_types_lem c.requires.converting.0 _ c.reference-left.ensures c.convert_expr.ensures.types (ap (converted _) c.in_ok-a.was) c.convert_expr.ensures.converts_as.stays c.reference-right.ensures c.convert_expr-2.ensures.types (ap (converted _) c.in_ok-b.was) }
+pub convert_other-returns-in-Ok-convert_expr : goal.convert_other-returns-in-Ok-convert_expr
+convert_other-returns-in-Ok-convert_expr t c = record { converts_as = other-next c.requires.converting.0 c.requires.converting.1 c.requires.kind.0 c.reference-left.ensures c.reference-right.ensures c.convert_expr.ensures.converts_as (ap (converted _) c.in-Ok.is) c.convert_expr-in-Ok.ensures.converts_as _ _ c.detail-op.ensures (ap (converted _) c.in-Ok-convert_expr.is) (c.finish_binary.ensures _) refl; types = sides_types_lem c.requires.converting.0 _ c.reference-left.ensures c.convert_expr.ensures.types (ap (converted _) c.in-Ok.is) c.convert_expr.ensures.converts_as.stays c.reference-right.ensures c.convert_expr-in-Ok.ensures.types (ap (converted _) c.in-Ok-convert_expr.is) }
 
 pub convert_unary-convert_expr-requires : goal.convert_unary-convert_expr-requires
 convert_unary-convert_expr-requires t c = let h = operand_side c.requires.converting.0.ready.keyed.good c.requires.kind.0 c.reference-part.ensures in (omega (arith, h.0, c.decreases), ((c.requires.converting.0, unary-part c.requires.converting.0 c.requires.converting.1 c.requires.kind.0 c.reference-part.ensures), (h.1, c.requires.in_turn)))
 
 pub convert_unary-finish_unary-requires : goal.convert_unary-finish_unary-requires
-convert_unary-finish_unary-requires t c = (unary-room c.requires.converting.0 c.requires.converting.1 c.requires.kind.0 c.reference-part.ensures c.convert_expr.ensures.converts_as (ap (converted _) c.in_ok-src.was), omega (arith, c.requires.kind.1.below, c.requires.converting.0.ready.keyed.good.few))
+convert_unary-finish_unary-requires t c = (unary-room c.requires.converting.0 c.requires.converting.1 c.requires.kind.0 c.reference-part.ensures c.convert_expr.ensures.converts_as (ap (converted _) c.in-Ok.is), omega (arith, c.requires.kind.1.below, c.requires.converting.0.ready.keyed.good.few))
 
-pub convert_unary-returns-in_err-src : goal.convert_unary-returns-in_err-src
-convert_unary-returns-in_err-src t c = let p = err_from_is_err_and c.from_residual.result c.from_residual.ensures.1 in rw (p.1, p.2) (record { converts_as = unary-stop c.requires.converting.0 c.requires.converting.1 c.requires.kind.0 c.reference-part.ensures c.convert_expr.ensures.converts_as _ (ap (converted _) c.in_err-src.was); types = refused-types })
+pub convert_unary-returns-in-Err : goal.convert_unary-returns-in-Err
+convert_unary-returns-in-Err t c = record { converts_as = unary-stop c.requires.converting.0 c.requires.converting.1 c.requires.kind.0 c.reference-part.ensures c.convert_expr.ensures.converts_as _ (ap (converted _) c.in-Err.is); types = refused-types }
 
-pub convert_unary-returns : goal.convert_unary-returns
-convert_unary-returns t c = record { converts_as = unary-next c.requires.converting.0 c.requires.converting.1 c.requires.kind.0 c.reference-part.ensures c.convert_expr.ensures.converts_as _ c.detail-op.ensures (ap (converted _) c.in_ok-src.was) (c.finish_unary.ensures _ c.requires.kind.1) refl; types = operand-types c.requires.converting.0 _ c.reference-part.ensures c.convert_expr.ensures.types (ap (converted _) c.in_ok-src.was) }
+pub convert_unary-returns-in-Ok : goal.convert_unary-returns-in-Ok
+convert_unary-returns-in-Ok t c = record { converts_as = unary-next c.requires.converting.0 c.requires.converting.1 c.requires.kind.0 c.reference-part.ensures c.convert_expr.ensures.converts_as _ c.detail-op.ensures (ap (converted _) c.in-Ok.is) (c.finish_unary.ensures _ c.requires.kind.1) refl; types = operand-types c.requires.converting.0 _ c.reference-part.ensures c.convert_expr.ensures.types (ap (converted _) c.in-Ok.is) }

@@ -1,6 +1,5 @@
 -- The For up to its check.
 -- The first bound, its copy and where the For counts on, in a row. Assumes nothing.
-use Rattle.std.proofs.lemmas.Result.{err_from_is_err_and}
 use Rattle.statements.specs.Turns.{expr_types}
 use mathlib.Core.Path.{ap, ◌∙◌}
 use mathlib.Core.List.{[]}
@@ -14,10 +13,10 @@ pub convert_expr-requires : goal.convert_expr-requires
 convert_expr-requires c = record { converting = (c.requires.converting.0, bound_afforded _ _ c.requires.converting.0 c.requires.converting.1 c.reference-from.ensures); expr = first_bound c.requires.converting.0.ready.keyed.good c.requires.kind.0 c.reference-from.ensures; in_turn = c.requires.in_turn }
 
 pub count_on-requires : goal.count_on-requires
-count_on-requires c = (count_room _ _ c.requires.converting.0 c.requires.converting.1 c.reference-from.ensures c.convert_expr.ensures.converts_as (ap (converted _) c.in_ok-a.was) (c.copy_fitted.ensures []), record_counted c.requires.converting.0 c.requires.kind.0 ((c.copy_fitted.ensures []).spent.records ∙ (converted-next c.convert_expr.ensures.converts_as (ap (converted _) c.in_ok-a.was)).spent.records), c.requires.kind.1)
+count_on-requires c = (count_room _ _ c.requires.converting.0 c.requires.converting.1 c.reference-from.ensures c.convert_expr.ensures.converts_as (ap (converted _) c.in-Ok.is) (c.copy_fitted.ensures []), record_counted c.requires.converting.0 c.requires.kind.0 ((c.copy_fitted.ensures []).spent.records ∙ (converted-next c.convert_expr.ensures.converts_as (ap (converted _) c.in-Ok.is)).spent.records), c.requires.kind.1)
 
-pub returns-in_err-a : goal.returns-in_err-a
-returns-in_err-a c = let p = err_from_is_err_and c.from_residual.result c.from_residual.ensures.1 in rw (p.1, p.2) (record { bound_as = (begin_refused _ _ c.reference-from.ensures c.convert_expr.ensures.converts_as (ap (converted _) c.in_err-a.was), c.convert_expr.ensures.converts_as.names); types = refused-finished })
+pub returns-in-Err : goal.returns-in-Err
+returns-in-Err c = record { bound_as = (begin_refused _ _ c.reference-from.ensures c.convert_expr.ensures.converts_as (ap (converted _) c.in-Err.is), c.convert_expr.ensures.converts_as.names); types = refused-finished }
 
-pub returns : goal.returns
-returns c = record { bound_as = (begin_done _ _ c.reference-from.ensures c.convert_expr.ensures.converts_as (ap (converted _) c.in_ok-a.was) (c.copy_fitted.ensures _) c.count_on.ensures, c.convert_expr.ensures.converts_as.names); types = operand-typed expr_types (at c.args.c c.args.k.now) c.reference-from.ensures c.convert_expr.ensures.types (ap (converted _) c.in_ok-a.was) }
+pub returns-in-Ok : goal.returns-in-Ok
+returns-in-Ok c = record { bound_as = (begin_done _ _ c.reference-from.ensures c.convert_expr.ensures.converts_as (ap (converted _) c.in-Ok.is) (c.copy_fitted.ensures _) c.count_on.ensures, c.convert_expr.ensures.converts_as.names); types = operand-typed expr_types (at c.args.c c.args.k.now) c.reference-from.ensures c.convert_expr.ensures.types (ap (converted _) c.in-Ok.is) }

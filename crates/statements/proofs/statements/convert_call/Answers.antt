@@ -1,6 +1,5 @@
 -- A call statement, by whether its expression is a call.
 -- One that is none is typed and never converted. Assumes nothing.
-use Rattle.std.proofs.lemmas.Result.{err_from_is_err_and}
 use mathlib.Core.Path.{sym, ◌∙◌}
 use Rattle.expressions.proofs.TypingLaws.{expr-low}
 use Rattle.statements.proofs.PlainTurns.{typing_in, refused-stated}
@@ -16,8 +15,8 @@ call_statement-requires c = record { converting = c.requires.converting; kind = 
 pub get_type-requires : goal.get_type-requires
 get_type-requires c = record { typing = typing_in c.requires.converting.0 c.requires.in_turn; expr = called_expr c.requires.converting.0.ready.keyed.good c.reference-e.ensures c.requires.kind }
 
-pub returns-in_err-get_type : goal.returns-in_err-get_type
-returns-in_err-get_type c = let p = err_from_is_err_and c.from_residual.result c.from_residual.ensures.1 in rw (p.1, p.2) (record { states_as = typed-stop c.requires.converting.0 c.requires.converting.1 c.requires.kind c.reference-e.ensures c.kind.ensures c.if-kind-eq-KIND_CALL.false c.get_type.ensures c.in_err-get_type.was; types = refused-stated })
+pub returns-in-Err : goal.returns-in-Err
+returns-in-Err c = record { states_as = typed-stop c.requires.converting.0 c.requires.converting.1 c.requires.kind c.reference-e.ensures c.kind.ensures c.if-kind-eq-KIND_CALL.false c.get_type.ensures c.in-Err.is; types = refused-stated }
 
-pub returns : goal.returns
-returns c = record { states_as = typed-only c.requires.converting.0 c.requires.converting.1 c.requires.kind c.reference-e.ensures c.kind.ensures c.if-kind-eq-KIND_CALL.false c.get_type.ensures c.in_ok-get_type.was; types = λ _ _ _. only-types c.requires.converting.0 c.requires.converting.1 c.requires.kind c.reference-e.ensures c.kind.ensures c.if-kind-eq-KIND_CALL.false c.get_type.ensures c.in_ok-get_type.was }
+pub returns-in-Ok : goal.returns-in-Ok
+returns-in-Ok c = record { states_as = typed-only c.requires.converting.0 c.requires.converting.1 c.requires.kind c.reference-e.ensures c.kind.ensures c.if-kind-eq-KIND_CALL.false c.get_type.ensures c.in-Ok.is; types = λ _ _ _. only-types c.requires.converting.0 c.requires.converting.1 c.requires.kind c.reference-e.ensures c.kind.ensures c.if-kind-eq-KIND_CALL.false c.get_type.ensures c.in-Ok.is }

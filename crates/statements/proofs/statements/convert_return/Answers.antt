@@ -1,6 +1,5 @@
 -- A Return, by the type of its value and that of its function.
 -- Typed first; the function's type is word D of its record. Assumes nothing.
-use Rattle.std.proofs.lemmas.Result.{err_from_is_err_and}
 use Rattle.expressions.proofs.TypingLaws.{is-typed}
 use Rattle.statements.proofs.PlainTurns.{typing_in, refused-stated}
 use Rattle.statements.proofs.TypedLaws.{typed-in_turn}
@@ -12,13 +11,13 @@ pub get_type-requires : goal.get_type-requires
 get_type-requires c = record { typing = typing_in c.requires.converting.0 c.requires.in_turn; expr = return-expr c.requires.converting.0.ready.keyed.good c.reference-e.ensures c.requires.kind }
 
 pub returns-then-expected : goal.returns-then-expected
-returns-then-expected c = record { states_as = return-none c.requires.converting.0 c.requires.kind c.reference-e.ensures c.get_type.ensures c.reference-expected.ensures c.in_ok-y.was c.if-expected.true c.error_at.ensures; types = refused-stated }
+returns-then-expected c = record { states_as = return-none c.requires.converting.0 c.requires.kind c.reference-e.ensures c.get_type.ensures c.reference-expected.ensures c.in-Ok.is c.if-expected.true c.error_at.ensures; types = refused-stated }
 
 pub return_as-requires : goal.return_as-requires
-return_as-requires c = record { converting = (type_converting c.requires.converting.0 c.get_type.ensures, c.requires.converting.1); kind = (c.requires.kind, is-typed _ _ _ c.get_type.ensures.typed c.in_ok-y.was, expected_type_lem c.requires.converting.0 c.requires.kind c.reference-e.ensures c.get_type.ensures c.reference-expected.ensures c.if-expected.false); in_turn = typed-in_turn c.requires.converting.0 c.get_type.ensures c.in_ok-y.was }
+return_as-requires c = record { converting = (type_converting c.requires.converting.0 c.get_type.ensures, c.requires.converting.1); kind = (c.requires.kind, is-typed _ _ _ c.get_type.ensures.typed c.in-Ok.is, expected_type_lem c.requires.converting.0 c.requires.kind c.reference-e.ensures c.get_type.ensures c.reference-expected.ensures c.if-expected.false); in_turn = typed-in_turn c.requires.converting.0 c.get_type.ensures c.in-Ok.is }
 
-pub returns-in_err-y : goal.returns-in_err-y
-returns-in_err-y c = let p = err_from_is_err_and c.from_residual.result c.from_residual.ensures.1 in rw (p.1, p.2) (record { states_as = return_untyped c.requires.converting.0 c.requires.kind c.reference-e.ensures c.get_type.ensures c.in_err-y.was; types = refused-stated })
+pub returns-in-Err : goal.returns-in-Err
+returns-in-Err c = record { states_as = return_untyped c.requires.converting.0 c.requires.kind c.reference-e.ensures c.get_type.ensures c.in-Err.is; types = refused-stated }
 
-pub returns : goal.returns
-returns c = record { states_as = return_some c.requires.converting.0 c.requires.kind c.reference-e.ensures c.get_type.ensures c.reference-expected.ensures c.in_ok-y.was c.if-expected.false c.return_as.ensures.states_as; types = λ sc k h. return-next c.requires.converting.0 c.requires.kind c.reference-e.ensures c.get_type.ensures c.in_ok-y.was (c.return_as.ensures.types sc k h) }
+pub returns-else-expected : goal.returns-else-expected
+returns-else-expected c = record { states_as = return_some c.requires.converting.0 c.requires.kind c.reference-e.ensures c.get_type.ensures c.reference-expected.ensures c.in-Ok.is c.if-expected.false c.return_as.ensures.states_as; types = λ sc k h. return-next c.requires.converting.0 c.requires.kind c.reference-e.ensures c.get_type.ensures c.in-Ok.is (c.return_as.ensures.types sc k h) }

@@ -1,6 +1,5 @@
 -- A Return of a value whose type is known, in a function that returns a type.
 -- The value is held against that type, converted, fitted to it and returned. Assumes nothing.
-use Rattle.std.proofs.lemmas.Result.{err_from_is_err_and}
 use mathlib.Core.Path.{ap}
 use native.Mathlib.Omega.{arith}
 use Rattle.types.proofs.FromGood.{is-type}
@@ -16,16 +15,16 @@ pub convert_expr-requires : goal.convert_expr-requires
 convert_expr-requires c = record { converting = (c.requires.converting.0, value_afforded c.requires.converting.0 c.requires.converting.1 c.requires.kind.0 c.reference-e.ensures); expr = return-expr c.requires.converting.0.ready.keyed.good c.reference-e.ensures c.requires.kind.0; in_turn = c.requires.in_turn }
 
 pub fit_operand-fitted-requires : goal.fit_operand-fitted-requires
-fit_operand-fitted-requires c = record { room_for = (value_room c.requires.converting.0 c.requires.converting.1 c.requires.kind.0 c.reference-e.ensures c.convert_expr.ensures.converts_as (ap (converted _) c.in_ok-value.was), omega (arith, c.requires.kind.2.below, c.requires.converting.0.ready.keyed.good.few)); type_at = (c.requires.kind.2, c.convert_expr.ensures.converts_as.operand _ _ (ap (converted _) c.in_ok-value.was)) }
+fit_operand-fitted-requires c = record { room_for = (value_room c.requires.converting.0 c.requires.converting.1 c.requires.kind.0 c.reference-e.ensures c.convert_expr.ensures.converts_as (ap (converted _) c.in-Ok-convert_expr.is), omega (arith, c.requires.kind.2.below, c.requires.converting.0.ready.keyed.good.few)); type_at = (c.requires.kind.2, c.convert_expr.ensures.converts_as.operand _ _ (ap (converted _) c.in-Ok-convert_expr.is)) }
 
 pub emit_return-requires : goal.emit_return-requires
-emit_return-requires c = fitted-room c.requires.converting.0 c.requires.converting.1 c.requires.kind.0 c.reference-e.ensures c.convert_expr.ensures.converts_as (ap (converted _) c.in_ok-value.was) _ (c.fit_operand-fitted.ensures _)
+emit_return-requires c = fitted-room c.requires.converting.0 c.requires.converting.1 c.requires.kind.0 c.reference-e.ensures c.convert_expr.ensures.converts_as (ap (converted _) c.in-Ok-convert_expr.is) _ (c.fit_operand-fitted.ensures _)
 
-pub returns-in_err-check_fits : goal.returns-in_err-check_fits
-returns-in_err-check_fits c = let p = err_from_is_err_and c.from_residual.result c.from_residual.ensures.1 in rw (p.1, p.2) (record { states_as = return_unfit c.requires.converting.0 c.requires.converting.1 c.requires.kind.0 c.reference-e.ensures _ _ _ (c.check_fits.ensures _ _) c.in_err-check_fits.was; types = refused-stated })
+pub returns-in-Err : goal.returns-in-Err
+returns-in-Err c = record { states_as = return_unfit c.requires.converting.0 c.requires.converting.1 c.requires.kind.0 c.reference-e.ensures _ _ _ (c.check_fits.ensures _ _) c.in-Err.is; types = refused-stated }
 
-pub returns-in_err-value : goal.returns-in_err-value
-returns-in_err-value c = let p = err_from_is_err_and c.from_residual-in_err-value.result c.from_residual-in_err-value.ensures.1 in rw (p.1, p.2) (record { states_as = return-stop c.requires.converting.0 c.requires.converting.1 c.requires.kind.0 c.reference-e.ensures _ _ _ (c.check_fits.ensures _ _) c.in_ok-check_fits.was c.convert_expr.ensures.converts_as (ap (converted _) c.in_err-value.was); types = refused-stated })
+pub returns-in-Err-convert_expr : goal.returns-in-Err-convert_expr
+returns-in-Err-convert_expr c = record { states_as = return-stop c.requires.converting.0 c.requires.converting.1 c.requires.kind.0 c.reference-e.ensures _ _ _ (c.check_fits.ensures _ _) c.in-Ok.is c.convert_expr.ensures.converts_as (ap (converted _) c.in-Err-convert_expr.is); types = refused-stated }
 
-pub returns : goal.returns
-returns c = record { states_as = return-done c.requires.converting.0 c.requires.converting.1 c.requires.kind.0 c.reference-e.ensures _ _ _ (c.check_fits.ensures _ _) c.in_ok-check_fits.was c.convert_expr.ensures.converts_as (ap (converted _) c.in_ok-value.was) (c.fit_operand-fitted.ensures _) (omega arith) c.emit_return.ensures; types = λ _ _ _. return-types (at c.args.c c.args.k.now) c.args.r c.reference-e.ensures (c.convert_expr.ensures.types _ _ (ap (converted _) c.in_ok-value.was)) }
+pub returns-in-Ok-convert_expr : goal.returns-in-Ok-convert_expr
+returns-in-Ok-convert_expr c = record { states_as = return-done c.requires.converting.0 c.requires.converting.1 c.requires.kind.0 c.reference-e.ensures _ _ _ (c.check_fits.ensures _ _) c.in-Ok.is c.convert_expr.ensures.converts_as (ap (converted _) c.in-Ok-convert_expr.is) (c.fit_operand-fitted.ensures _) (omega arith) c.emit_return.ensures; types = λ _ _ _. return-types (at c.args.c c.args.k.now) c.args.r c.reference-e.ensures (c.convert_expr.ensures.types _ _ (ap (converted _) c.in-Ok-convert_expr.is)) }
