@@ -139,7 +139,7 @@ pub(crate) fn resolve_typed(
 {
     let call = call_of(tree, text, scratch, r);
     let place = r as u32;
-    // By a match, not by `?`: what `?` passes on is copied in pieces that the processor does not forward.
+    // By a match, not by `?`: what `?` passes on is copied in pieces and read across them, for which the processor waits (docs/PERFORMANCE.md).
     match cast_type(tree, text, scratch, call, place) {
         Err(e) => Err(e),
         Ok(Some(y)) => Ok(Callee::Cast(y)),

@@ -55,7 +55,7 @@ fn work_out(
 {
     let k = kind(tree, e);
     let left = reference(tree, e, WORD_A);
-    // By matches, not by `?`: what `?` passes on is copied in pieces that the processor does not forward.
+    // By matches, not by `?`: what `?` passes on is copied in pieces and read across them, for which the processor waits (docs/PERFORMANCE.md).
     if k == KIND_UNARY {
         return match get_type(tree, text, scratch, scope, turn, left) {
             Err(x) => Err(x),

@@ -148,7 +148,7 @@ pub(crate) fn value_type(
     requires e_bound { e < records tree.now }
     ensures { TypeIs tree.now result (value_result tree.now text.now e callee) }
 {
-    // By a match, not by `?`: what `?` passes on is copied in pieces that the processor does not forward.
+    // By a match, not by `?`: what `?` passes on is copied in pieces and read across them, for which the processor waits (docs/PERFORMANCE.md).
     match callee {
         Err(x) => Err(x),
         Ok(Callee::Cast(y)) => Ok(y),

@@ -59,7 +59,7 @@ pub(crate) fn keep(
     requires { Keepable tree.now e a b scratch.old }
     ensures { Keeps tree.now turn e a b scratch.old result scratch.new }
 {
-    // By a match, not by `?`: what `?` passes on is copied in pieces that the processor does not forward.
+    // By a match, not by `?`: what `?` passes on is copied in pieces and read across them, for which the processor waits (docs/PERFORMANCE.md).
     match a {
         Err(x) => Err(x),
         Ok(y) => {

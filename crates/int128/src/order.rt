@@ -116,7 +116,7 @@ fn greatest(short: bool, unsigned: bool) -> Int128
 pub fn int_fits(value: Int128, short: bool, unsigned: bool) -> bool
     ensures { result ≡ int_fits (value_of value) short unsigned }
 {
-    // No range ends on the far side of 0: the sign tells which end to compare with.
+    // Each range begins at or below 0 and ends above it, so that one end is enough: the sign tells which.
     if value.hi < SIGN {
         value <= greatest(short, unsigned)
     } else {

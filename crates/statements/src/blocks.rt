@@ -110,8 +110,8 @@ fn convert_statement(
     }
 }
 
-// The block whose first cell this is, in a scope of its own. By a match, not by `?`: what `?` passes on is copied in pieces that the processor does
-// not forward.
+// The block whose first cell this is, in a scope of its own. By a match, not by `?`: what `?` passes on is copied in pieces and read across
+// them, for which the processor waits (docs/PERFORMANCE.md).
 #[cycle(convert_block_convert_for_loop_convert_if_convert_statement_convert_while_loop)]
 pub fn convert_block(
     tree: &[u8],

@@ -1,6 +1,6 @@
 // statements.rs: the instructions of an expression. The functions that call each other convert parts of records, whose numbers fall;
 // arguments are walked by a loop.
-// An answer is passed on by a match, not by `?`: what `?` passes on is copied in pieces that the processor does not forward.
+// An answer is passed on by a match, not by `?`: what `?` passes on is copied in pieces and read across them, for which the processor waits (docs/PERFORMANCE.md).
 ghost use Rattle.std.specs.Prelude.{◌+◌};
 ghost use Rattle.records.specs.Words as Words;
 ghost use Rattle.records.specs.Words.{word_of};

@@ -57,7 +57,7 @@ fn if_not_label(tree: &[u8], r: usize) -> LabelKind
 }
 
 // The If r before its then-block. Its condition, as each value below, is looked at by a match, not by `?`: what `?` passes on is copied in pieces
-// that the processor does not forward.
+// and read across them, for which the processor waits (docs/PERFORMANCE.md).
 pub(crate) fn if_head(
     tree: &[u8],
     text: &[u8],

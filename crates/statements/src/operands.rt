@@ -160,7 +160,7 @@ fn name_operand(
     requires { Ready tree.now text.now scratch.now c.scope × IsKind tree.now kind_name e }
     ensures { LeafStays c e tree.now text.now scratch.now result }
 {
-    // By a match, not by `?`: what `?` passes on is copied in pieces that the processor does not forward.
+    // By a match, not by `?`: what `?` passes on is copied in pieces and read across them, for which the processor waits (docs/PERFORMANCE.md).
     match find_name(tree, text, scratch, c.scope, e) {
         Some(known) => Ok(Operand::Var(known.var)),
         None => Err(error_at(ConvertErrorKind::UnknownVariable, e)),

@@ -127,7 +127,7 @@ pub(crate) fn operand_type(
     ensures by_index_2 { (k : List ℕ) → OperandTyped tree.now text.now scratch.old (at c k) e y result scratch.new }
     ensures types { (k : List ℕ) → CommonTyped (at c k) e tree.now text.now scratch.old result scratch.new }
 {
-    // By a match, not by `?`: what `?` passes on is copied in pieces that the processor does not forward.
+    // By a match, not by `?`: what `?` passes on is copied in pieces and read across them, for which the processor waits (docs/PERFORMANCE.md).
     match common_type(tree, text, scratch, c.scope, c.turn, e) {
         Err(x) => Err(x),
         Ok(Some(q)) => Ok(q),

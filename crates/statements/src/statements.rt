@@ -1,5 +1,5 @@
 // statements.rs: the statements that hold no block, and conditions.
-// An answer is passed on by a match, not by `?`: what `?` passes on is copied in pieces that the processor does not forward.
+// An answer is passed on by a match, not by `?`: what `?` passes on is copied in pieces and read across them, for which the processor waits (docs/PERFORMANCE.md).
 ghost use Rattle.std.specs.Prelude.{◌≡◌, false, List, ℕ, ◌<◌, eqb, ltb};
 ghost use Rattle.laws.specs.Fix.{pick};
 ghost use Rattle.records.specs.Words as Words;
